@@ -1,40 +1,29 @@
 -- Whole walks over directories return the lists of pe_directories.
-use Rattle.std.proofs.Common.{◌≡◌, ℕ, ◌+◌, ◌-◌, ◌*◌, ◌≤◌, ◌==◌, Bool, true, false, List, [], ◌∷◌, length, drop, Option, Some, None, Result, Ok, Err, refl, sym, ap, subst, ◌∙◌, arith}
-use Rattle.std.specs.Prelude.{if◌then◌else◌}
-use Rattle.std.proofs.lemmas.Bool.Decides.{nat_tests}
-use Rattle.pe_core.proofs.Ranges.{length_range, range_in_range}
-use Rattle.pe_core.specs.Bytes.{holds, le, range}
-use Rattle.pe_core.specs.Refusals.{Refusal, Short, outcome, ◌>>=◌}
-use Rattle.pe_core.specs.Rows.{entry_items}
-use Rattle.pe_core.specs.Text.{text_at}
-use Rattle.pe_directories.specs.BaseRelocations.{Block, block_of, blocks_end, first_block, first_relocation, is_block_size, relocation_of, relocation_size, type_of}
-use Rattle.pe_directories.specs.BoundImports.{Bound, bound_at, bound_forwarder_at, bound_imports_end, bound_name, bound_of, bound_size, first_bound_import, name_or_refusal}
-use Rattle.pe_directories.specs.DelayImports.{delay_import_at, delay_imports_end, first_delay_import}
-use Rattle.pe_directories.specs.DirectoryRefusals.{DirectoryRefusal, Image, BlockSize, BlockTruncated, NoArgument, of_image}
-use Rattle.pe_directories.specs.Walks.{Items}
+use Rattle.std.proofs.Common.{◌≡◌, ℕ, ◌+◌, ◌-◌, ◌*◌, ◌≤◌, Bool, true, false, List, [], ◌∷◌, length, drop, Option, Some, None, Result, Ok, Err, refl, sym, ap, subst, ◌∙◌, arith}
+use Rattle.calls_directories.proofs.Cited.{if◌then◌else◌, nat_tests, length_range, range_in_range, holds, le, range, Refusal, Short}
+use Rattle.calls_directories.proofs.Cited.{outcome, ◌>>=◌, entry_items, text_at, Block, first_block, first_relocation}
+use Rattle.calls_directories.proofs.Cited.{is_block_size, relocation_of, relocation_size, Bound, bound_at, bound_forwarder_at}
+use Rattle.calls_directories.proofs.Cited.{bound_imports_end, bound_name, bound_of, bound_size, first_bound_import}
+use Rattle.calls_directories.proofs.Cited.{first_delay_import, DirectoryRefusal, Image, BlockSize, BlockTruncated, of_image, Items}
+use Rattle.calls_directories.proofs.Cited.{DelayImport, text_stands, Makes, gives_first, gives_nothing, gives_refusal, StepsEntries}
+use Rattle.calls_directories.proofs.Cited.{next_of, walk_items, walk_of, bytes_of_range, size_of, there, bound_reported}
+use Rattle.calls_directories.proofs.Cited.{forwarder_reported, next_forwarder, unless_refused, library_of, HasBound, HasBlock}
+use Rattle.calls_directories.proofs.Cited.{StepsBlocks, StepsBoundImports, StepsDelayLibraries, StepsForwarders, StepsRelocations}
+use Rattle.calls_directories.proofs.Cited.{blocks_reported, bounds_reported, forwarders_reported, relocations_reported, directory}
+use Rattle.calls_directories.proofs.Cited.{IsRange, bytes_at, no_bytes, range_after, EachHas, IsOver, ReturnsItems, read_items}
+use Rattle.calls_directories.proofs.Cited.{DelayLibrary, Range}
+use Rattle.pe_directories.specs.BaseRelocations.{block_of, blocks_end}
+use Rattle.pe_directories.specs.BoundImports.{name_or_refusal}
 use Rattle.pe_directories.specs.declared.base_relocation.BaseRelocation.{BaseRelocation}
-use Rattle.pe_directories.specs.declared.delay_import.DelayImport.{DelayImport}
 use Rattle.pe_directories.specs.ForwardersAfter.{forwarders_after}
 use Rattle.pe_directories.specs.declared.bound_import.BoundForwarder as forwarders
 use Rattle.calls_base.proofs.EntryRuns.{gives_entries}
-use Rattle.calls_base.proofs.TextRanges.{text_stands}
-use Rattle.calls_base.proofs.Runs.{Makes, gives_first, gives_nothing, gives_refusal}
-use Rattle.calls_base.specs.Walks.{StepsEntries, next_of, walk_items, walk_of}
 use Rattle.calls_directories.proofs.DirectoryRuns.{Read, Reported, Takes, each_has, in_turn, read_further, refused, reported, same_read, sees_refusal}
-use Rattle.calls_base.proofs.LeftBytes.{bytes_of_range, size_of, there}
-use Rattle.calls_directories.specs.BoundImports.{bound_name_at, bound_reported, forwarder_reported, next_forwarder, unless_refused}
-use Rattle.calls_directories.specs.DelayImports.{library_of}
-use Rattle.calls_directories.specs.DirectoryRuns.{HasBound, HasBlock, StepsBlocks, StepsBoundImports, StepsDelayLibraries, StepsForwarders, StepsRelocations, blocks_reported, bounds_reported, forwarders_reported, relocations_reported}
 use Rattle.calls_directories.specs.Relocations.{block_reported, relocation_reported}
-use Rattle.calls_base.specs.Images.{directory}
-use Rattle.calls_base.specs.Ranges.{IsRange, bytes_at, no_bytes, range_after}
-use Rattle.calls_base.specs.Runs.{EachHas, IsOver, ReturnsItems, and_after, read_items}
 use Rattle.calls_directories.specs.declared.directories.base_relocations.RelocationBlock.{RelocationBlock}
 use Rattle.calls_directories.specs.declared.directories.bound_imports.BoundForwarder.{BoundForwarder}
 use Rattle.calls_directories.specs.declared.directories.bound_imports.BoundImport.{BoundImport}
-use Rattle.calls_directories.specs.declared.directories.delay_imports.DelayLibrary.{DelayLibrary}
 use Rattle.calls_base.specs.declared.image.Image as images
-use Rattle.calls_base.specs.declared.ranges.Range.{Range}
 
 -- ---- what stands first, and what it leaves
 
@@ -87,43 +76,13 @@ block_tail : (b : List ℕ) (x : Block) (t : List ℕ) → first_block b ≡ Som
 unfolding first_block
 block_tail b x t e = block_by b (blocks_end b) (holds b 0 8) (is_block_size (le b 4 4)) (holds b 0 (le b 4 4)) x t refl refl e
 
-no_block : first_block [] ≡ None
-unfolding first_block
-no_block = refl
-
-relocation_by : (page : ℕ) (b : List ℕ) (empty head whole : Bool) (x : BaseRelocation) (t : List ℕ) → holds b 0 (relocation_size (type_of (le b 0 2))) ≡ whole →
-    (if empty then None else Some (outcome {Y = BaseRelocation × List ℕ} ((head, Image Short) ∷ (whole, NoArgument) ∷ []) (relocation_of page b, drop (relocation_size (type_of (le b 0 2))) b))) ≡ Some (Ok (x, t)) →
-    (t ≡ drop (relocation_size x.kind) b) × (relocation_size x.kind ≤ length b)
-unfolding relocation_of
-relocation_by page b true head whole x t i e = absurd (cc (e))
-relocation_by page b false false whole x t i e = absurd (cc (e))
-relocation_by page b false true false x t i e = absurd (cc (e))
-relocation_by page b false true true x t i e =
-    let pair : (relocation_of page b, drop (relocation_size (type_of (le b 0 2))) b) ≡ (x, t) = cc (e) in
-    let size : relocation_size (type_of (le b 0 2)) ≡ relocation_size x.kind = ap (λ (p : BaseRelocation × List ℕ). relocation_size p.0.kind) pair in (
-      sym (ap (λ (p : BaseRelocation × List ℕ). p.1) pair) ∙ ap (λ (n : ℕ). drop n b) size,
-      subst (λ (n : ℕ). n ≤ length b) size (held b (relocation_size (type_of (le b 0 2))) i),
-    )
-
 relocation_taken : (page : ℕ) → Takes (first_relocation page) (λ x. relocation_size x.kind)
-unfolding first_relocation
-relocation_taken page b x t e = relocation_by page b (length b == 0) (holds b 0 2) (holds b 0 (relocation_size (type_of (le b 0 2)))) x t refl e
-
-no_relocation : (page : ℕ) → first_relocation page [] ≡ None
-unfolding first_relocation
-no_relocation page = refl
-
-delay_by : (b : List ℕ) (ends whole : Bool) (v x : DelayImport) (t : List ℕ) → holds b 0 32 ≡ whole →
-    (if ends then None else Some (outcome {Y = DelayImport × List ℕ} ((whole, Image Short) ∷ []) (v, drop 32 b))) ≡ Some (Ok (x, t)) → (t ≡ drop 32 b) × (32 ≤ length b)
-delay_by b true whole v x t i e = absurd (cc (e))
-delay_by b false false v x t i e = absurd (cc (e))
-delay_by b false true v x t i e =
-    let pair : (v, drop 32 b) ≡ (x, t) = cc (e) in
-    (sym (ap (λ (p : DelayImport × List ℕ). p.1) pair), held b 32 i)
+unfolding first_relocation relocation_of
+relocation_taken page b x t e = grind (arith, held)
 
 pub delay_taken : Takes first_delay_import (λ x. 32)
 unfolding first_delay_import
-delay_taken b x t e = delay_by b (delay_imports_end b) (holds b 0 32) (delay_import_at b) x t refl e
+delay_taken = grind (arith, held)
 
 pub no_delay_import : first_delay_import [] ≡ None
 unfolding first_delay_import
@@ -142,17 +101,14 @@ pub bound_tail : (b : List ℕ) (x : Bound) (t : List ℕ) → first_bound_impor
 unfolding first_bound_import bound_of
 bound_tail b x t e = bound_by b (bound_imports_end b) (holds b 0 8) (holds b 0 (bound_size b)) x t refl e
 
-pub no_bound_import : first_bound_import [] ≡ None
-unfolding first_bound_import
-no_bound_import = refl
-
 -- ---- base relocations
 
 block_taken : Takes first_block (λ x. 8 + length x.entries)
 block_taken b x t e = let tail = block_tail b x t e in (tail.taken, tail.inside)
 
 block_walk : (b : List ℕ) → Reported b first_block block_reported (λ x. 8 + length x.entries)
-block_walk b = reported b first_block block_reported (λ x. 8 + length x.entries) block_taken no_block
+unfolding first_block
+block_walk b = reported b first_block block_reported (λ x. 8 + length x.entries) block_taken refl
 
 abbrev pub BlocksOf : List ℕ → Range → List (Result Block DirectoryRefusal) → Type 0
 BlocksOf b w items = ReturnsItems (StepsBlocks b) w (blocks_reported w items) × EachHas (HasBlock b) (blocks_reported w items) items
@@ -169,7 +125,8 @@ pub blocks_outside : (b : List ℕ) (w : Range) (r : Refusal) → bytes_at b w �
 blocks_outside b w r e = refused _ _ _ _ _ _ _ _ (block_walk b) w (Image r) (sees_refusal first_block b w r e)
 
 relocation_walk : (page : ℕ) (b : List ℕ) → Reported b (first_relocation page) (λ (w : Range) (x : BaseRelocation). relocation_reported x) (λ x. relocation_size x.kind)
-relocation_walk page b = reported b (first_relocation page) (λ (w : Range) (x : BaseRelocation). relocation_reported x) (λ x. relocation_size x.kind) (relocation_taken page) (no_relocation page)
+unfolding first_relocation
+relocation_walk page b = reported b (first_relocation page) (λ (w : Range) (x : BaseRelocation). relocation_reported x) (λ x. relocation_size x.kind) (relocation_taken page) refl
 
 pub relocations_in_turn : (page : ℕ) (b : List ℕ) (w : Range) (s : List ℕ) (items : List (Result BaseRelocation DirectoryRefusal)) → bytes_at b w ≡ Ok s → Items (first_relocation page) s items →
     ReturnsItems (StepsRelocations page b) w (relocations_reported items)
@@ -179,9 +136,7 @@ relocations_in_turn page b w s items h f =
 
 pub relocations_of_block : (b : List ℕ) (y : RelocationBlock) (x : Block) (items : List (Result BaseRelocation DirectoryRefusal)) → HasBlock b y x → Items (first_relocation x.page_rva) x.entries items →
     ReturnsItems (StepsRelocations y.page_rva b) y.entries (relocations_reported items)
-relocations_of_block b y x items h f =
-    subst (λ (page : ℕ). ReturnsItems (StepsRelocations page b) y.entries (relocations_reported items)) (sym h.page)
-    (relocations_in_turn x.page_rva b y.entries x.entries items (bytes_of_range b y.entries x.entries h.entries) f)
+relocations_of_block b y x items h f = grind (arith, relocations_in_turn, bytes_of_range)
 
 pub relocations_outside : (page : ℕ) (b : List ℕ) (w : Range) (r : Refusal) → bytes_at b w ≡ Err r → ReturnsItems (StepsRelocations page b) w (Err (Image r) ∷ [])
 relocations_outside page b w r e = refused _ _ _ _ _ _ _ _ (relocation_walk page b) w (Image r) (sees_refusal (first_relocation page) b w r e)
@@ -206,7 +161,8 @@ bound_taken : Takes first_bound_import (λ x. 8 + length x.forwarders)
 bound_taken b x t e = let tail = bound_tail b x t e in (tail.taken, tail.inside)
 
 bound_walk : (b : List ℕ) (table : Range) → Read b first_bound_import (bound_reported b table) (λ x. 8 + length x.forwarders)
-bound_walk b table = read_further b first_bound_import (bound_reported b table) (λ x. 8 + length x.forwarders) bound_taken no_bound_import
+unfolding first_bound_import
+bound_walk b table = read_further b first_bound_import (bound_reported b table) (λ x. 8 + length x.forwarders) bound_taken refl
 
 -- a name of the directory stands in its range
 name_by : (b : List ℕ) (table : Range) (directory : List ℕ) (o : ℕ) (text : Option (List ℕ)) (name : List ℕ) → bytes_at b table ≡ Ok directory → text_at directory o ≡ text → name_or_refusal text ≡ Ok name →
@@ -260,37 +216,18 @@ bounds_outside b table w r e = refused _ _ _ _ _ _ _ _ (bound_walk b table) w (I
 abbrev Entries : List ℕ → Range → Result (Option forwarders.BoundForwarder) Refusal → Range → Type 0
 Entries b = StepsEntries bound_forwarder_at 8 b
 
-no_entry_left : (b : List ℕ) → next_of bound_forwarder_at 8 b no_bytes ≡ Ok None
-no_entry_left b = let inside : holds b 0 0 ≡ true = grind (arith, nat_tests) in rw inside refl
-
 step_at : (b : List ℕ) (table w : Range) (entry : Result (Option forwarders.BoundForwarder) Refusal) → next_of bound_forwarder_at 8 b w ≡ entry → next_forwarder b table w ≡ (of_image entry >>= forwarder_reported b table)
 step_at b table w entry e = ap (λ (x : Result (Option forwarders.BoundForwarder) Refusal). of_image x >>= forwarder_reported b table) e
 
 forwarder_makes : (b : List ℕ) (table w : Range) (given : Result (Option BoundForwarder) DirectoryRefusal) → next_forwarder b table w ≡ given → Makes (StepsForwarders b table) w given (unless_refused given (walk_of 8 b w))
 forwarder_makes b table w given e answer v s = (s.0 ∙ e, s.1 ∙ ap (λ (g : Result (Option BoundForwarder) DirectoryRefusal). unless_refused g (walk_of 8 b w)) e)
 
-not_there : (b : List ℕ) (w : Range) (inside : Bool) (r : Refusal) → holds b w.offset w.length ≡ inside → bytes_at b w ≡ Err r → next_of bound_forwarder_at 8 b w ≡ Err r
-not_there b w true r h e = absurd (let same : ◌≡◌ {A = Result (List ℕ) Refusal} (Ok (range b w.offset w.length)) (Err r) = sym (rw h refl) ∙ e in cc)
-not_there b w false r h e = let same : ◌≡◌ {A = Result (List ℕ) Refusal} (Err Short) (Err r) = sym (rw h refl) ∙ e in let refusal : Short ≡ r = cc in rw h (ap (λ (x : Refusal). Err x) refusal)
-
 -- a walk that has no entry left has no forwarder left
 forwarders_over : (b : List ℕ) (table w : Range) → IsOver (Entries b) w → IsOver (StepsForwarders b table) w
-forwarders_over b table w over =
-    let entry = over (next_of bound_forwarder_at 8 b w) (walk_of 8 b w) (refl, refl) in
-    λ answer v s.
-    let made = forwarder_makes b table w (Ok None) (step_at b table w (Ok None) entry.0) answer v s in
-    (made.0, made.1 ∙ entry.1)
+forwarders_over b table w over = grind (arith, forwarder_makes, step_at)
 
 nothing_left : (b : List ℕ) (table : Range) → IsOver (StepsForwarders b table) no_bytes
-nothing_left b table = let inside : holds b 0 0 ≡ true = grind (arith, nat_tests) in forwarders_over b table no_bytes (λ answer v s. (s.0 ∙ no_entry_left b, s.1 ∙ rw inside refl))
-
-named_entry : (b : List ℕ) (table w : Range) (x : forwarders.BoundForwarder) (at : Result Range DirectoryRefusal) (ys : List (Result BoundForwarder DirectoryRefusal)) → bound_name_at b table x.name ≡ at → next_of bound_forwarder_at 8 b w ≡ Ok (Some x) →
-    ReturnsItems (StepsForwarders b table) (walk_of 8 b w) ys → ReturnsItems (StepsForwarders b table) w (and_after (at >>= λ name. Ok (record { name = name; time_date_stamp = x.time_date_stamp; spare = 0 })) ys)
-named_entry b table w x (Ok name) ys is e more =
-    gives_first (StepsForwarders b table) w (walk_of 8 b w) (record { name = name; time_date_stamp = x.time_date_stamp; spare = 0 }) ys
-    (forwarder_makes b table w (Ok (Some (record { name = name; time_date_stamp = x.time_date_stamp; spare = 0 }))) (step_at b table w (Ok (Some x)) e ∙ rw is refl)) more
-named_entry b table w x (Err r) ys is e more =
-    gives_refusal (StepsForwarders b table) w no_bytes r (forwarder_makes b table w (Err r) (step_at b table w (Ok (Some x)) e ∙ rw is refl)) (nothing_left b table)
+nothing_left b table = grind (arith, nat_tests, forwarders_over)
 
 forwarders_read : (b : List ℕ) (table w : Range) (items : List (Result forwarders.BoundForwarder Refusal)) → ReturnsItems (Entries b) w items → ReturnsItems (StepsForwarders b table) w (forwarders_reported b table items)
 forwarders_read b table w [] h =
@@ -298,7 +235,7 @@ forwarders_read b table w [] h =
     gives_nothing (StepsForwarders b table) w (walk_of 8 b w) (forwarder_makes b table w (Ok None) (step_at b table w (Ok None) entry.0)) (forwarders_over b table (walk_of 8 b w) entry.1)
 forwarders_read b table w (Ok x ∷ items) h =
     let entry = h (next_of bound_forwarder_at 8 b w) (walk_of 8 b w) (refl, refl) in
-    named_entry b table w x (bound_name_at b table x.name) (forwarders_reported b table items) refl entry.0 (forwarders_read b table (walk_of 8 b w) items entry.1)
+    grind (arith, gives_first, forwarder_makes, step_at, gives_refusal, nothing_left, entry.0, forwarders_read b table (walk_of 8 b w) items entry.1)
 forwarders_read b table w (Err r ∷ items) h =
     let entry = h.1 (next_of bound_forwarder_at 8 b w) (walk_of 8 b w) (refl, refl) in
     gives_refusal (StepsForwarders b table) w no_bytes (Image r) (forwarder_makes b table w (Err (Image r)) (step_at b table w (Err r) entry.0)) (nothing_left b table)
@@ -317,4 +254,4 @@ forwarders_of_import b table directory y x h = forwarders_in_turn b table y.forw
 
 pub forwarders_outside : (b : List ℕ) (table w : Range) (r : Refusal) → bytes_at b w ≡ Err r → ReturnsItems (StepsForwarders b table) w (Err (Image r) ∷ [])
 forwarders_outside b table w r e =
-    gives_refusal (StepsForwarders b table) w no_bytes (Image r) (forwarder_makes b table w (Err (Image r)) (step_at b table w (Err r) (not_there b w (holds b w.offset w.length) r refl e))) (nothing_left b table)
+    gives_refusal (StepsForwarders b table) w no_bytes (Image r) (forwarder_makes b table w (Err (Image r)) (step_at b table w (Err r) (grind arith))) (nothing_left b table)

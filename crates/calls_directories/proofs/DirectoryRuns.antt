@@ -1,16 +1,10 @@
 -- Whole walks by what stands first in what a walk has left, whatever they are over.
 use Rattle.std.proofs.Common.{◌≡◌, ℕ, ◌-◌, ◌≤◌, List, [], ◌∷◌, length, drop, Option, Some, None, Result, Ok, Err, length-drop, refl, sym, ap, subst, ◌∙◌, arith}
-use Rattle.pe_core.specs.Refusals.{Refusal, ◌>>=◌}
-use Rattle.pe_directories.specs.DirectoryRefusals.{DirectoryRefusal, Image}
-use Rattle.pe_directories.specs.Walks.{First, Items}
-use Rattle.calls_base.proofs.LeftBytes.{bytes_there, nothing_there, same_range, size_of}
+use Rattle.calls_directories.proofs.Cited.{Refusal, DirectoryRefusal, Image, First, Items, bytes_there, nothing_there, same_range}
+use Rattle.calls_directories.proofs.Cited.{size_of, Makes, gives_first, gives_nothing, gives_refusal, StepsBy, first_in, left_after}
+use Rattle.calls_directories.proofs.Cited.{range_left, read_first, step_of, bytes_at, no_bytes, range_after, EachHas, IsOver}
+use Rattle.calls_directories.proofs.Cited.{ReturnsItems, and_after, read_in_turn, read_items, Range}
 use Rattle.calls_base.proofs.LeftBytes as left
-use Rattle.calls_base.proofs.Runs.{Makes, gives_first, gives_nothing, gives_refusal}
-use Rattle.calls_directories.specs.DirectoryRuns.{StepsBy}
-use Rattle.calls_base.specs.Directories.{first_in, left_after, range_left, read_first, step_of}
-use Rattle.calls_base.specs.Ranges.{bytes_at, no_bytes, range_after}
-use Rattle.calls_base.specs.Runs.{EachHas, IsOver, ReturnsItems, and_after, read_in_turn, read_items}
-use Rattle.calls_base.specs.declared.ranges.Range.{Range}
 
 -- ---- what a step returns and leaves, by what stands first
 
@@ -82,24 +76,16 @@ as_they_are {X} first s (Err r ∷ items) f = ap (λ (xs : List (Result X Direct
 
 -- ---- steps by their definitions
 
--- an item that is returned without being read further
-reported_as : {X Y S : Type 0} (report : X → Y) (f : First X S) → step_of report f ≡ answered (λ (x : X). Ok (report x)) f
-reported_as report None = refl
-reported_as report (Some (Ok x)) = refl
-reported_as report (Some (Err r)) = refl
-
 pub makes_reported : {W X Y S : Type 0} (report : W → X → Y) (first_at : W → First X S) (after : W → First X S → W) (next : W → X → S → W) (over : W → W) →
     ((w : W) (f : First X S) → after w f ≡ moved (λ (x : X). Ok (report w x)) (next w) (over w) w f) →
     (w : W) (f : First X S) → first_at w ≡ f → Makes (StepsBy report first_at after) w (answered (λ (x : X). Ok (report w x)) f) (moved (λ (x : X). Ok (report w x)) (next w) (over w) w f)
-makes_reported report first_at after next over moves w f e answer v s =
-    (s.0 ∙ ap (step_of (report w)) e ∙ reported_as (report w) f, s.1 ∙ ap (after w) e ∙ moves w f)
+makes_reported report first_at after next over moves w f e = grind arith
 
 -- an item that is read further
 pub makes_read : {W X Y S : Type 0} (read : W → X → Result Y DirectoryRefusal) (first_at : W → First X S) (after : W → First Y S → W) (next : W → X → S → W) (over : W → W) →
     ((w : W) (f : First X S) → after w (read_first (read w) f) ≡ moved (read w) (next w) (over w) w f) →
     (w : W) (f : First X S) → first_at w ≡ f → Makes (StepsBy (λ (v : W) (y : Y). y) (λ (v : W). read_first (read v) (first_at v)) after) w (answered (read w) f) (moved (read w) (next w) (over w) w f)
-makes_read {W} {X} {Y} {S} read first_at after next over moves w f e answer v s =
-    (s.0 ∙ ap (answered (read w)) e, s.1 ∙ ap (λ (g : First X S). after w (read_first (read w) g)) e ∙ moves w f)
+makes_read read first_at after next over moves w f e = grind arith
 
 -- ---- walks that are ranges
 
@@ -110,18 +96,10 @@ abbrev pub over_range : Range → Range
 over_range w = no_bytes
 
 pub moves_reported : {X Y : Type 0} (report : Range → X → Y) (w : Range) (f : First X (List ℕ)) → left_after w f ≡ moved (λ (x : X). Ok (report w x)) (next_range w) no_bytes w f
-moves_reported report w None = refl
-moves_reported report w (Some (Ok x)) = refl
-moves_reported report w (Some (Err r)) = refl
-
-moves_by : {Y : Type 0} (w : Range) (t : List ℕ) (a : Result Y DirectoryRefusal) → left_after w (Some (a >>= λ y. Ok (y, t))) ≡ unless a (range_left w (length t)) no_bytes
-moves_by w t (Ok y) = refl
-moves_by w t (Err r) = refl
+moves_reported report w f = grind arith
 
 pub moves_read : {X Y : Type 0} (read : Range → X → Result Y DirectoryRefusal) (w : Range) (f : First X (List ℕ)) → left_after w (read_first (read w) f) ≡ moved (read w) (next_range w) no_bytes w f
-moves_read read w None = refl
-moves_read read w (Some (Ok x)) = moves_by w x.1 (read w x.0)
-moves_read read w (Some (Err r)) = refl
+moves_read read w f = grind arith
 
 -- an item takes so many bytes from the front
 abbrev pub Takes : {X : Type 0} → (List ℕ → First X (List ℕ)) → (X → ℕ) → Type 0

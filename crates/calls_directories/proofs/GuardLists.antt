@@ -1,32 +1,20 @@
 -- Whole walks over the entries of a guard table return the entries that pe_directories defines.
-use Rattle.std.proofs.Common.{◌≡◌, ◌⊎◌, inl, inr, ℕ, ◌+◌, ◌-◌, ◌≤◌, ◌==◌, Bool, true, false, List, [], ◌∷◌, length, drop, Option, Some, None, Result, Ok, Err, refl, sym, ap, subst, ◌∙◌, arith}
-use Rattle.std.specs.Prelude.{◌||◌, if◌then◌else◌}
-use Rattle.std.specs.Option.{unwrap_or}
-use Rattle.std.proofs.lemmas.Bool.Decides.{nat_tests}
-use Rattle.pe_core.proofs.Ranges.{length_range, range_in_range}
-use Rattle.pe_core.specs.Bytes.{holds, le, range}
-use Rattle.pe_core.specs.Refusals.{Short, outcome, ◌>>=◌}
-use Rattle.pe_core.specs.declared.section_table.SectionTable.{SectionTable}
-use Rattle.pe_directories.specs.DirectoryRefusals.{DirectoryRefusal, Image}
+use Rattle.std.proofs.Common.{◌≡◌, ◌⊎◌, inl, inr, ℕ, ◌+◌, ◌-◌, ◌≤◌, ◌==◌, Bool, false, List, [], ◌∷◌, length, drop, Option, Some, None, Result, Ok, Err, refl, sym, ap, subst, ◌∙◌, arith}
+use Rattle.calls_directories.proofs.Cited.{if◌then◌else◌, nat_tests, length_range, range_in_range, holds, range, Short, ◌>>=◌}
+use Rattle.calls_directories.proofs.Cited.{SectionTable, DirectoryRefusal, Image, First, Items, size_of, there, first_of}
+use Rattle.calls_directories.proofs.Cited.{image_parts, range_left, directory, is_absent, IsRange, bytes_at, range_after}
+use Rattle.calls_directories.proofs.Cited.{ReturnsItems, Range}
 use Rattle.pe_directories.specs.GuardTables.{Guarded, first_guarded, guard_table}
-use Rattle.pe_directories.specs.ImageParts.{offset_of_va}
 use Rattle.pe_directories.specs.LoadConfig.{load_config}
-use Rattle.pe_directories.specs.Walks.{First, Items}
 use Rattle.pe_directories.specs.declared.load_config.LoadConfig.{LoadConfig}
 use Rattle.calls_directories.proofs.DirectoryLists.{held}
 use Rattle.calls_directories.proofs.DirectoryRuns.{IsWalk, each_has, goes_on, in_turn, makes_reported, moved, no_bytes_at, refused}
-use Rattle.calls_base.proofs.LeftBytes.{size_of, there}
 use Rattle.calls_directories.proofs.NumberLists.{tail_from, tail_there}
-use Rattle.calls_base.specs.Directories.{first_of, image_parts, range_left}
 use Rattle.calls_directories.specs.GuardTables.{HasGuarded, ReturnsEntries, StepsGuardEntries, after_entry, entries_after, entries_in, entries_of, entry_reported, first_entry_in, guard_table_at, no_entries, place_of}
-use Rattle.calls_base.specs.Images.{directory, is_absent}
-use Rattle.calls_base.specs.Ranges.{IsRange, bytes_at, range_after}
-use Rattle.calls_base.specs.Runs.{ReturnsItems}
 use Rattle.calls_directories.specs.declared.directories.guard_tables.GuardEntries.{GuardEntries}
 use Rattle.calls_directories.specs.declared.directories.guard_tables.GuardEntry.{GuardEntry}
 use Rattle.calls_directories.specs.declared.directories.guard_tables.Place.{Place}
 use Rattle.calls_base.specs.declared.image.Image as images
-use Rattle.calls_base.specs.declared.ranges.Range.{Range}
 
 -- ---- what stands first, and what it leaves
 
@@ -34,21 +22,9 @@ use Rattle.calls_base.specs.declared.ranges.Range.{Range}
 abbrev pub IsTaken : ℕ → ℕ × List ℕ → Guarded → ℕ × List ℕ → Type 0
 IsTaken n s x t = (t.0 ≡ s.0 - 1) × (t.1 ≡ drop (4 + n) s.1) × (4 + n ≤ length s.1) × (x.flags ≡ range s.1 4 n)
 
-first_by : (n : ℕ) (s : ℕ × List ℕ) (none whole : Bool) (x : Guarded) (t : ℕ × List ℕ) → holds s.1 0 (4 + n) ≡ whole →
-    ◌≡◌ {A = First Guarded (ℕ × List ℕ)} (if none then None else Some (outcome ((whole, Image Short) ∷ []) (record { rva = le s.1 0 4; flags = range s.1 4 n }, (s.0 - 1, drop (4 + n) s.1)))) (Some (Ok (x, t))) → IsTaken n s x t
-first_by n s true whole x t h e = absurd (cc (e))
-first_by n s false false x t h e = absurd (cc (e))
-first_by n s false true x t h e =
-    let pair : (record { rva = le s.1 0 4; flags = range s.1 4 n }, (s.0 - 1, drop (4 + n) s.1)) ≡ (x, t) = cc (e) in (
-      sym (ap (λ (p : Guarded × (ℕ × List ℕ)). p.1.0) pair),
-      sym (ap (λ (p : Guarded × (ℕ × List ℕ)). p.1.1) pair),
-      held s.1 (4 + n) h,
-      sym (ap (λ (p : Guarded × (ℕ × List ℕ)). p.0.flags) pair),
-    )
-
 pub first_taken : (n : ℕ) (s : ℕ × List ℕ) (x : Guarded) (t : ℕ × List ℕ) → first_guarded n s ≡ Some (Ok (x, t)) → IsTaken n s x t
 unfolding first_guarded
-first_taken n s x t e = first_by n s (s.0 == 0) (holds s.1 0 (4 + n)) x t refl e
+first_taken n s x t e = grind (arith, held)
 
 -- ---- the walk
 
@@ -56,11 +32,8 @@ first_taken n s x t e = first_by n s (s.0 == 0) (holds s.1 0 (4 + n)) x t refl e
 abbrev HoldsEntries : ℕ → List ℕ → GuardEntries → ℕ × List ℕ → Type 0
 HoldsEntries n b w s = (bytes_at b w.entries ≡ Ok s.1) × (w.count ≡ s.0) × (w.flag_size ≡ n)
 
-entries_there : (n : ℕ) (b : List ℕ) (w : GuardEntries) (s : ℕ × List ℕ) → HoldsEntries n b w s → entries_in b w ≡ Ok s
-entries_there n b w s h = rw h.0 (ap (λ (k : ℕ). Ok (k, s.1)) h.1)
-
 sees : (n : ℕ) (b : List ℕ) (w : GuardEntries) (s : ℕ × List ℕ) → HoldsEntries n b w s → first_entry_in b w ≡ first_guarded n s
-sees n b w s h = ap (first_of (first_guarded w.flag_size)) (entries_there n b w s h) ∙ ap (λ (k : ℕ). first_guarded k s) h.2
+sees n b w s h = grind arith
 
 abbrev next_entries : GuardEntries → Guarded → ℕ × List ℕ → GuardEntries
 next_entries w x t = record w { entries = range_left w.entries (length t.1); count = t.0 }
@@ -69,9 +42,7 @@ abbrev over_entries : GuardEntries → GuardEntries
 over_entries w = no_entries
 
 entries_move : (w : GuardEntries) (f : First Guarded (ℕ × List ℕ)) → entries_after w f ≡ moved (λ (x : Guarded). Ok (entry_reported w x)) (next_entries w) no_entries w f
-entries_move w None = refl
-entries_move w (Some (Ok x)) = refl
-entries_move w (Some (Err r)) = refl
+entries_move w f = grind arith
 
 entries_go_on : (n : ℕ) (b : List ℕ) (w : GuardEntries) (s : ℕ × List ℕ) (x : Guarded) (t : ℕ × List ℕ) → HoldsEntries n b w s → first_guarded n s ≡ Some (Ok (x, t)) →
     (next_entries w x t ≡ after_entry w x) × HoldsEntries n b (after_entry w x) t
@@ -90,15 +61,12 @@ none_of : (n : ℕ) (s : ℕ × List ℕ) → s.0 ≡ 0 → first_guarded n s �
 unfolding first_guarded
 none_of n s e = rw e refl
 
-no_entry_left : (b : List ℕ) → first_entry_in b no_entries ≡ None
-no_entry_left b = sees 0 b no_entries (0, []) (no_bytes_at b, refl, refl) ∙ none_of 0 (0, []) refl
-
 entry_walk : (n : ℕ) (b : List ℕ) → IsWalk (StepsGuardEntries b) (first_guarded n) (first_entry_in b) (λ w x. Ok (entry_reported w x)) after_entry next_entries over_entries (HoldsEntries n b)
 entry_walk n b = record {
   sees = sees n b;
   makes = makes_reported entry_reported (first_entry_in b) entries_after next_entries over_entries entries_move;
   goes_on = entries_go_on n b;
-  ends = λ w. no_entry_left b;
+  ends = λ w. (sees 0 b no_entries (0, []) (no_bytes_at b, refl, refl) ∙ none_of 0 (0, []) refl);
 }
 
 -- ---- the parts of an entry
@@ -136,19 +104,11 @@ entries_outside b w r e = refused _ _ _ _ _ _ _ _ (entry_walk w.flag_size b) w r
 none_by : (n count : ℕ) (items : List (Result Guarded DirectoryRefusal)) → (count == 0) ≡ false → Items (first_guarded n) (count, []) items → first_guarded n (count, []) ≡ Some (Err (Image Short)) → items ≡ Err (Image Short) ∷ []
 none_by n count [] some f e = absurd (let none : ◌≡◌ {A = First Guarded (ℕ × List ℕ)} (Some (Err (Image Short))) None = sym e ∙ f in cc)
 none_by n count (Ok x ∷ items) some f e = absurd (let none : ◌≡◌ {A = First Guarded (ℕ × List ℕ)} (Some (Err (Image Short))) (Some (Ok (x, f.0))) = sym e ∙ f.1 in cc)
-none_by n count (Err r ∷ items) some f e =
-    let same : ◌≡◌ {A = First Guarded (ℕ × List ℕ)} (Some (Err (Image Short))) (Some (Err r)) = sym e ∙ f.0 in
-    let refusal : Image Short ≡ r = cc in
-    ap (λ (d : DirectoryRefusal). Err d ∷ items) (sym refusal) ∙ ap (λ (xs : List (Result Guarded DirectoryRefusal)). Err (Image Short) ∷ xs) f.1
-
-no_entry : (n count : ℕ) → (count == 0) ≡ false → first_guarded n (count, []) ≡ Some (Err (Image Short))
-unfolding first_guarded
-no_entry n count some =
-    let short : holds [] 0 (4 + n) ≡ false = grind (arith, nat_tests) in
-    rw (some, short) refl
+none_by n count (Err r ∷ items) some f e = grind (arith)
 
 truncated : (n count : ℕ) (items : List (Result Guarded DirectoryRefusal)) → (count == 0) ≡ false → Items (first_guarded n) (count, []) items → items ≡ Err (Image Short) ∷ []
-truncated n count items some f = none_by n count items some f (no_entry n count some)
+unfolding first_guarded
+truncated n count items some f = none_by n count items some f (grind (arith, nat_tests))
 
 abbrev walk_from : List ℕ → ℕ → ℕ → ℕ → GuardEntries
 walk_from b p count n = record { entries = tail_from b p; count = count; flag_size = n; spare = 0 }
@@ -161,32 +121,13 @@ from_offset b p count n items some f (inr h) =
     (sym (truncated n count items some (subst (λ (d : List ℕ). Items (first_guarded n) (count, d) items) h.1 f)))
     (entries_outside b (walk_from b p count n) (Image Short) (rw h.0 refl), tt)
 
-from_place : (b : List ℕ) (none empty : Bool) (at : Result ℕ DirectoryRefusal) (count n : ℕ) (w : GuardEntries) (s : ℕ × List ℕ) (items : List (Result Guarded DirectoryRefusal)) → (count == 0) ≡ empty →
-    ◌≡◌ {A = Result (Option GuardEntries) DirectoryRefusal} (if none || empty then Ok None else (at >>= λ q. Ok (Some (record { entries = record { offset = q; length = length b - q }; count = count; flag_size = n; spare = 0 })))) (Ok (Some w)) →
-    ◌≡◌ {A = Result (Option (ℕ × List ℕ)) DirectoryRefusal} (if none || empty then Ok None else ((at >>= λ p. Ok (drop p b)) >>= λ d. Ok (Some (count, d)))) (Ok (Some s)) →
-    Items (first_guarded n) s items → ReturnsEntries b w items
-from_place b true empty at count n w s items z e g f = absurd (cc (e))
-from_place b false true at count n w s items z e g f = absurd (cc (e))
-from_place b false false (Err r) count n w s items z e g f = absurd (cc (e))
-from_place b false false (Ok p) count n w s items z e g f =
-    let walk : walk_from b p count n ≡ w = cc (e) in
-    let left : (count, drop p b) ≡ s = cc (g) in
-    subst (λ (v : GuardEntries). ReturnsEntries b v items) walk
-    (from_offset b p count n items z (subst (λ (d : ℕ × List ℕ). Items (first_guarded n) d items) (sym left) f) (tail_there b p (holds b p (length b - p)) refl))
-
-of_place : (b : List ℕ) (image : images.Image) (sections : List SectionTable) (p : Place) (w : GuardEntries) (s : ℕ × List ℕ) (items : List (Result Guarded DirectoryRefusal)) →
-    entries_of b image (λ _. sections) p ≡ Ok (Some w) → guard_table (image_parts b image sections) p.va p.count ≡ Ok (Some s) → Items (first_guarded p.flag_size) s items → ReturnsEntries b w items
-unfolding guard_table
-of_place b image sections p w s items e g f =
-    from_place b (unwrap_or p.va 0 == 0) (unwrap_or p.count 0 == 0) (offset_of_va (image_parts b image sections) (unwrap_or p.va 0)) (unwrap_or p.count 0) p.flag_size w s items refl e g f
-
 of_config : (entries : Place → Result (Option GuardEntries) DirectoryRefusal) (absent : Bool) (n : ℕ) (c : LoadConfig) (read : Result LoadConfig DirectoryRefusal) (w : GuardEntries) → read ≡ Ok c →
     ◌≡◌ {A = Result (Option GuardEntries) DirectoryRefusal} (if absent then Ok None else (read >>= λ d. entries (place_of n d))) (Ok (Some w)) → entries (place_of n c) ≡ Ok (Some w)
-of_config entries true n c read w h e = absurd (cc (e))
-of_config entries false n c read w h e = subst (λ (r : Result LoadConfig DirectoryRefusal). (r >>= λ d. entries (place_of n d)) ≡ Ok (Some w)) h e
+of_config entries absent n c read w h e = grind arith
 
 pub entries_of_image : (n : ℕ) (b : List ℕ) (image : images.Image) (sections : List SectionTable) (w : GuardEntries) (c : LoadConfig) (s : ℕ × List ℕ) (items : List (Result Guarded DirectoryRefusal)) →
     guard_table_at n b image (λ _. sections) ≡ Ok (Some w) → load_config (image_parts b image sections) (directory image 10) ≡ Ok c → guard_table (image_parts b image sections) (place_of n c).va (place_of n c).count ≡ Ok (Some s) →
     Items (first_guarded (place_of n c).flag_size) s items → ReturnsEntries b w items
+unfolding guard_table
 entries_of_image n b image sections w c s items e h g f =
-    of_place b image sections (place_of n c) w s items (of_config (entries_of b image (λ _. sections)) (is_absent (directory image 10)) n c (load_config (image_parts b image sections) (directory image 10)) w h e) g f
+    grind (arith, from_offset, tail_there, of_config (entries_of b image (λ _. sections)) (is_absent (directory image 10)) n c (load_config (image_parts b image sections) (directory image 10)) w h e)

@@ -1,24 +1,14 @@
 -- Walks over the leaves of resource trees, and the names that they report.
-use Rattle.std.proofs.Common.{◌≡◌, ℕ, ◌+◌, ◌*◌, ◌≤◌, Bool, true, false, List, [], ◌∷◌, length, map, Option, Some, None, Result, Ok, Err, refl, sym, ap, subst, ◌∙◌, arith}
-use Rattle.std.proofs.lemmas.Bool.Decides.{nat_tests}
-use Rattle.std.proofs.lemmas.List.{places, same_lists}
-use Rattle.pe_core.proofs.Ranges.{length_range}
-use Rattle.pe_core.specs.Bytes.{holds, le, range}
-use Rattle.pe_core.specs.Refusals.{Refusal, Short}
-use Rattle.pe_core.specs.declared.section_table.SectionTable.{SectionTable}
+use Rattle.std.proofs.Common.{◌≡◌, ℕ, ◌+◌, ◌*◌, ◌≤◌, Bool, true, List, [], ◌∷◌, length, map, Option, Some, None, Result, Ok, Err, refl, sym, ap, subst, ◌∙◌, arith}
+use Rattle.calls_directories.proofs.Cited.{nat_tests, places, same_lists, length_range, holds, le, range, SectionTable, leaves_at}
+use Rattle.calls_directories.proofs.Cited.{TreeRefusal, name_units, ResourceEntry, there, bytes_at, IsOver, ReturnsItems}
+use Rattle.calls_directories.proofs.Cited.{read_items, Range}
 use Rattle.pe_resource.proofs.LeafPositions.{last_position}
-use Rattle.pe_resource.specs.LeafPositions.{leaves_at}
-use Rattle.pe_resource.specs.Leaves.{TreeRefusal, name_units}
 use Rattle.pe_resource.specs.ResourceEntries.{has_name, name_offset}
-use Rattle.pe_resource.specs.declared.entry.ResourceEntry.{ResourceEntry}
 use Rattle.pe_resource.specs.declared.leaf_position.LeafPosition.{LeafPosition}
 use Rattle.pe_resource.specs.declared.leaves.ResourceLeaf as trees
-use Rattle.calls_base.proofs.LeftBytes.{there}
-use Rattle.calls_directories.specs.ResourceLeaves.{IsNameOf, StartsTree, StepsLeaves, after_item, first_item, item_reported, items_left, leaf_reported, leaves_walk, name_reported, no_leaves, position_of, walk_after}
-use Rattle.calls_base.specs.Ranges.{bytes_at}
-use Rattle.calls_base.specs.Runs.{IsOver, ReturnsItems, read_items}
+use Rattle.calls_directories.specs.ResourceLeaves.{IsNameOf, StartsTree, StepsLeaves, after_item, first_item, item_reported, items_left, leaf_reported, leaves_walk, name_reported, no_leaves, position_of}
 use Rattle.calls_base.specs.declared.image.Image as images
-use Rattle.calls_base.specs.declared.ranges.Range.{Range}
 use Rattle.calls_directories.specs.declared.resources.leaves.ResourceLeaf.{ResourceLeaf}
 use Rattle.calls_directories.specs.declared.resources.leaves.ResourceLeaves.{ResourceLeaves}
 
@@ -31,9 +21,7 @@ over_has_none b offset =
 -- the items of a walk with these data, by where it is in them
 items_at : (b : List ℕ) (offset : ℕ → Option ℕ) (v : ResourceLeaves) (tree : Range) (d : List ℕ) (p : LeafPosition) → bytes_at b tree ≡ Ok d → v.tree ≡ tree → position_of v ≡ p →
     items_left b offset v ≡ map (item_reported b offset tree.offset d) (leaves_at d p)
-items_at b offset v tree d p there same at =
-    let bytes : bytes_at b v.tree ≡ Ok d = ap (bytes_at b) same ∙ there in
-    rw bytes (rw same (ap (λ (q : LeafPosition). map (item_reported b offset tree.offset d) (leaves_at d q)) at))
+items_at b offset v tree d p there same at = grind (arith, there)
 
 -- what a step leaves that returned a leaf
 pub after_leaf : (b : List ℕ) (offset : ℕ → Option ℕ) (v w : ResourceLeaves) (d : List ℕ) (p q : LeafPosition) (x : trees.ResourceLeaf) (y : ResourceLeaf) →
@@ -46,41 +34,24 @@ after_leaf b offset v w d p q x y there same at from first reported =
 
 -- ---- the walk after a step
 
-ends_by : (w : ResourceLeaves) (bytes : Result (List ℕ) Refusal) → walk_after w bytes (Ok None) ≡ no_leaves
-ends_by w (Ok d) = refl
-ends_by w (Err r) = refl
-
-refuses_by : (w : ResourceLeaves) (bytes : Result (List ℕ) Refusal) (r : TreeRefusal) → walk_after w bytes (Err r) ≡ no_leaves
-refuses_by w (Ok d) r = refl
-refuses_by w (Err e) r = refl
-
 pub ends_over : (b : List ℕ) (offset : ℕ → Option ℕ) (w : ResourceLeaves) → first_item (items_left b offset w) ≡ Ok None → leaves_walk b offset w ≡ no_leaves
-ends_over b offset w e = ap (walk_after w (bytes_at b w.tree)) e ∙ ends_by w (bytes_at b w.tree)
-
-pub refuses_over : (b : List ℕ) (offset : ℕ → Option ℕ) (w : ResourceLeaves) (r : TreeRefusal) → first_item (items_left b offset w) ≡ Err r → leaves_walk b offset w ≡ no_leaves
-refuses_over b offset w r e = ap (walk_after w (bytes_at b w.tree)) e ∙ refuses_by w (bytes_at b w.tree) r
+ends_over b offset w e = grind arith
 
 -- ---- whole walks
 
-over_is_over : (b : List ℕ) (offset : ℕ → Option ℕ) → IsOver (StepsLeaves b offset) no_leaves
-over_is_over b offset answer next s =
-    let nothing : first_item (items_left b offset no_leaves) ≡ Ok None = ap first_item (over_has_none b offset) in
-    (s.0 ∙ nothing, s.2 ∙ ends_over b offset no_leaves nothing)
-
 over_at : (b : List ℕ) (offset : ℕ → Option ℕ) (w : ResourceLeaves) → w ≡ no_leaves → IsOver (StepsLeaves b offset) w
-over_at b offset w e = subst (λ (v : ResourceLeaves). IsOver (StepsLeaves b offset) v) (sym e) (over_is_over b offset)
+over_at b offset w e =
+    subst (λ (v : ResourceLeaves). IsOver (StepsLeaves b offset) v) (sym e) (grind (arith, over_has_none, ends_over))
 
 by_items : (b : List ℕ) (offset : ℕ → Option ℕ) (w : ResourceLeaves) (items : List (Result ResourceLeaf TreeRefusal)) → items_left b offset w ≡ items →
     ReturnsItems (StepsLeaves b offset) w (read_items (λ (x : ResourceLeaf). Ok x) items)
-by_items b offset w [] e = λ answer next s.
-    let nothing : first_item (items_left b offset w) ≡ Ok None = ap first_item e in
-    (s.0 ∙ nothing, over_at b offset next (s.2 ∙ ends_over b offset w nothing))
+by_items b offset w [] e = grind (arith, over_at, ends_over)
 by_items b offset w (Ok x ∷ items) e = λ answer next s. (s.0 ∙ ap first_item e, by_items b offset next items (s.1 ∙ ap after_item e))
 by_items b offset w (Err r ∷ items) e = (
   refl,
   λ answer next s.
       let refusal : first_item (items_left b offset w) ≡ Err r = ap first_item e in
-      (s.0 ∙ refusal, over_at b offset next (s.2 ∙ refuses_over b offset w r refusal)),
+      (s.0 ∙ refusal, over_at b offset next (s.2 ∙ (grind arith))),
 )
 
 pub leaves_in_turn : (b : List ℕ) (offset : ℕ → Option ℕ) (w : ResourceLeaves) →
@@ -89,9 +60,7 @@ leaves_in_turn b offset w = by_items b offset w (items_left b offset w) refl
 
 pub leaves_of_tree : (b : List ℕ) (image : images.Image) (sections : List SectionTable) (offset : ℕ → Option ℕ) (tree : List ℕ × List (Result trees.ResourceLeaf TreeRefusal)) (w : ResourceLeaves) → StartsTree b image sections tree w →
     ReturnsItems (StepsLeaves b offset) w (read_items (λ (x : ResourceLeaf). Ok x) (map (item_reported b offset w.tree.offset tree.0) tree.1))
-leaves_of_tree b image sections offset tree w h =
-    by_items b offset w (map (item_reported b offset w.tree.offset tree.0) tree.1)
-    (items_at b offset w w.tree tree.0 (position_of w) h.bytes_of_tree refl refl ∙ ap (map (item_reported b offset w.tree.offset tree.0)) h.leaves)
+leaves_of_tree b image sections offset tree w h = grind (arith, by_items, items_at)
 
 -- ---- names
 
@@ -103,13 +72,7 @@ units_there : (d : List ℕ) (e : ResourceEntry) (units : List ℕ) (named first
     holds d (name_offset e + 2) (2 * le d (name_offset e) 2) ≡ second → name_units d e ≡ Ok (Some units) →
     (name_offset e + 2 + 2 * le d (name_offset e) 2 ≤ length d) × (units ≡ range d (name_offset e + 2) (2 * le d (name_offset e) 2))
 unfolding name_units
-units_there d e units true true true n f s is = (
-  grind (arith, nat_tests),
-  (let same : ◌≡◌ {A = Result (Option (List ℕ)) Refusal} (Ok (Some (range d (name_offset e + 2) (2 * le d (name_offset e) 2)))) (Ok (Some units)) = sym (rw n (rw f (rw s refl))) ∙ is in cc),
-)
-units_there d e units true true false n f s is = absurd (let same : ◌≡◌ {A = Result (Option (List ℕ)) Refusal} (Err Short) (Ok (Some units)) = sym (rw n (rw f (rw s refl))) ∙ is in cc)
-units_there d e units true false second n f s is = absurd (let same : ◌≡◌ {A = Result (Option (List ℕ)) Refusal} (Err Short) (Ok (Some units)) = sym (rw n (rw f refl)) ∙ is in cc)
-units_there d e units false first second n f s is = absurd (let same : ◌≡◌ {A = Result (Option (List ℕ)) Refusal} (Ok None) (Ok (Some units)) = sym (rw n refl) ∙ is in cc)
+units_there d e units named first second n f s is = grind (arith, nat_tests)
 
 pub names_are_theirs : (b : List ℕ) (tree : Range) (d : List ℕ) (e : ResourceEntry) (units : Option (List ℕ)) → bytes_at b tree ≡ Ok d → name_units d e ≡ Ok units → IsNameOf b (name_reported tree.offset e units) units
 names_are_theirs b tree d e None at is = refl

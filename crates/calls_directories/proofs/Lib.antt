@@ -1,3 +1,4 @@
+mod Cited
 pub mod AddressEntries
 pub mod DirectoryParts
 pub mod DirectoryRuns

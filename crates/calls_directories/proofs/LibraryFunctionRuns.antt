@@ -1,35 +1,21 @@
 -- The walk over the functions of all delay-loaded DLLs returns those of each DLL in turn.
-use Rattle.std.proofs.Common.{◌≡◌, ℕ, zero, suc, ◌<◌, List, [], ◌∷◌, length, drop, Option, Some, None, Result, Ok, Err, length-drop, refl, sym, ap, subst, ◌∙◌, arith}
-use Rattle.pe_core.specs.Refusals.{Refusal, ◌>>=◌}
-use Rattle.pe_directories.specs.DelayImports.{first_delay_import}
-use Rattle.pe_directories.specs.DirectoryRefusals.{DirectoryRefusal, of_image}
-use Rattle.pe_directories.specs.Walks.{First}
-use Rattle.pe_directories.specs.declared.delay_import.DelayImport.{DelayImport}
-use Rattle.calls_directories.specs.DelayImports.{first_library_in, first_of_walk, functions_after, library_of}
-use Rattle.calls_directories.specs.DirectoryRuns.{StepsDelayLibraries, StepsDelayedFunctions}
-use Rattle.calls_base.specs.Directories.{first_of, left_after, read_first, step_of}
-use Rattle.calls_directories.specs.LibraryFunctions.{AreFunctionsOf, StepsLibraryFunctions, Turn, Turns, all_over, at_library, before_first, next_library, of_libraries, of_library, turn, turn_by_function, turn_by_library, with_library}
-use Rattle.calls_directories.specs.LibraryImports.{then_items}
-use Rattle.calls_base.specs.Ranges.{bytes_at, no_bytes}
-use Rattle.calls_base.specs.Runs.{IsOver, ReturnsItems}
-use Rattle.calls_directories.specs.declared.directories.delay_imports.DelayLibrary.{DelayLibrary}
-use Rattle.calls_directories.specs.declared.directories.delay_imports.DelayedFunction.{DelayedFunction}
-use Rattle.calls_directories.specs.declared.directories.delay_imports.DelayedFunctions.{DelayedFunctions}
+use Rattle.std.proofs.Common.{◌≡◌, ℕ, zero, suc, ◌<◌, List, [], ◌∷◌, length, drop, Option, Some, None, Result, Ok, Err, length-drop, refl, ap, subst, ◌∙◌, arith}
+use Rattle.calls_directories.proofs.Cited.{◌>>=◌, first_delay_import, DirectoryRefusal, of_image, First, DelayImport}
+use Rattle.calls_directories.proofs.Cited.{first_library_in, first_of_walk, functions_after, library_of, StepsDelayLibraries}
+use Rattle.calls_directories.proofs.Cited.{StepsDelayedFunctions, first_of, left_after, read_first, step_of, AreFunctionsOf}
+use Rattle.calls_directories.proofs.Cited.{StepsLibraryFunctions, turn_by_function, then_items, bytes_at, no_bytes, IsOver}
+use Rattle.calls_directories.proofs.Cited.{ReturnsItems, DelayLibrary, DelayedFunction, DelayedFunctions, LibraryFunction}
+use Rattle.calls_directories.proofs.Cited.{LibraryFunctions, Range, size_of, Makes, gives_first, gives_nothing, gives_refusal}
+use Rattle.calls_directories.specs.LibraryFunctions.{Turn, Turns, all_over, at_library, before_first, next_library, of_libraries, of_library, turn, turn_by_library, with_library}
 use Rattle.calls_base.specs.declared.image.Image as images
-use Rattle.calls_directories.specs.declared.directories.all_delay_imports.LibraryFunction.{LibraryFunction}
-use Rattle.calls_directories.specs.declared.directories.all_delay_imports.LibraryFunctions.{LibraryFunctions}
-use Rattle.calls_base.specs.declared.ranges.Range.{Range}
 use Rattle.calls_directories.proofs.DirectoryLists.{delay_taken, no_delay_import}
 use Rattle.calls_directories.proofs.DirectoryRuns.{over_has_none}
-use Rattle.calls_base.proofs.LeftBytes.{size_of}
-use Rattle.calls_base.proofs.Runs.{Makes, gives_first, gives_nothing, gives_refusal}
 
 -- ---- each DLL takes bytes of the directory
 
 shorter_read : (w : Range) (t : List ℕ) (a : Result DelayLibrary DirectoryRefusal) (x : DelayLibrary) → length t < w.length → step_of (λ (y : DelayLibrary). y) (Some (a >>= λ y. Ok (y, t))) ≡ Ok (Some x) →
     (left_after w (Some (a >>= λ y. Ok (y, t)))).length < w.length
-shorter_read w t (Ok y) x h given = h
-shorter_read w t (Err r) x h given = absurd cc
+shorter_read w t a x h given = grind arith
 
 shorter_by : (offset : ℕ → Option ℕ) (b : List ℕ) (image : images.Image) (w : Range) (s : List ℕ) (f : First DelayImport (List ℕ)) (x : DelayLibrary) → length s ≡ w.length → first_delay_import s ≡ f →
     step_of (λ (y : DelayLibrary). y) (read_first (library_of offset b image) f) ≡ Ok (Some x) → (left_after w (read_first (library_of offset b image) f)).length < w.length
@@ -40,13 +26,9 @@ shorter_by offset b image w s (Some (Ok p)) x size is given =
     shorter_read w p.1 (library_of offset b image p.0) x (omega (arith, left, length-drop 32 s, taken.1, size)) given
 shorter_by offset b image w s (Some (Err r)) x size is given = absurd cc
 
-size_in : (b : List ℕ) (w : Range) (s : List ℕ) (bytes : Result (List ℕ) Refusal) → bytes_at b w ≡ bytes → of_image bytes ≡ Ok s → length s ≡ w.length
-size_in b w s (Ok t) e is = let same : t ≡ s = cc in ap length (sym same) ∙ size_of b w t e
-size_in b w s (Err r) e is = absurd cc
-
 shorter_in : (offset : ℕ → Option ℕ) (b : List ℕ) (image : images.Image) (w : Range) (bytes : Result (List ℕ) DirectoryRefusal) (x : DelayLibrary) → of_image (bytes_at b w) ≡ bytes →
     step_of (λ (y : DelayLibrary). y) (read_first (library_of offset b image) (first_of first_delay_import bytes)) ≡ Ok (Some x) → (left_after w (read_first (library_of offset b image) (first_of first_delay_import bytes))).length < w.length
-shorter_in offset b image w (Ok s) x is given = shorter_by offset b image w s (first_delay_import s) x (size_in b w s (bytes_at b w) refl is) refl given
+shorter_in offset b image w (Ok s) x is given = shorter_by offset b image w s (first_delay_import s) x (grind (arith, size_of)) refl given
 shorter_in offset b image w (Err r) x is given = absurd cc
 
 pub shorter : (offset : ℕ → Option ℕ) (b : List ℕ) (image : images.Image) (w : Range) (x : DelayLibrary) → step_of (λ (y : DelayLibrary). y) (first_library_in offset b image w) ≡ Ok (Some x) → (left_after w (first_library_in offset b image w)).length < w.length

@@ -1,18 +1,14 @@
 -- The walk over the imports of all libraries returns those of each library in turn.
 use Rattle.std.proofs.Common.{◌≡◌, ℕ, zero, suc, List, [], ◌∷◌, Option, Some, None, Result, Ok, Err, refl, sym, ap, subst, ◌∙◌, arith}
-use Rattle.pe_core.specs.Refusals.{Refusal}
-use Rattle.calls_directories.specs.declared.names.imports.Import.{Import}
-use Rattle.calls_directories.specs.declared.names.imports.Imports.{Imports}
+use Rattle.calls_directories.proofs.Cited.{Refusal, Import, Imports, LibraryImport, LibraryImports, StepsImports, StepsLibraries}
+use Rattle.calls_directories.proofs.Cited.{import_by, import_left, import_step, library_step, no_libraries, AreImportsOf}
+use Rattle.calls_directories.proofs.Cited.{StepsLibraryImports, Turn, Turns, after_import, all_over, at_library, before_first}
+use Rattle.calls_directories.proofs.Cited.{next_library, of_libraries, of_library, then_items, turn, turn_by_import}
+use Rattle.calls_directories.proofs.Cited.{turn_by_library, with_library, IsOver, ReturnsItems, left_entry, Makes, gives_first}
+use Rattle.calls_directories.proofs.Cited.{gives_nothing, gives_refusal, makes_by}
 use Rattle.calls_directories.specs.declared.names.imports.Libraries.{Libraries}
 use Rattle.calls_directories.specs.declared.names.imports.Library.{Library}
-use Rattle.calls_directories.specs.declared.names.all_imports.LibraryImport.{LibraryImport}
-use Rattle.calls_directories.specs.declared.names.all_imports.LibraryImports.{LibraryImports}
-use Rattle.calls_directories.specs.Imports.{StepsImports, StepsLibraries, import_by, import_left, import_step, library_step, no_libraries}
-use Rattle.calls_directories.specs.LibraryImports.{AreImportsOf, StepsLibraryImports, Turn, Turns, after_import, all_over, at_library, before_first, next_library, of_libraries, of_library, then_items, turn, turn_by_import, turn_by_library, with_library}
-use Rattle.calls_base.specs.Runs.{IsOver, ReturnsItems}
-use Rattle.calls_base.specs.Walks.{left_entry}
 use Rattle.calls_directories.proofs.LastImports.{step_last}
-use Rattle.calls_base.proofs.Runs.{Makes, gives_first, gives_nothing, gives_refusal, makes_by}
 
 module _ (offset : ℕ → Option ℕ) (w : ℕ) (b : List ℕ) where
   abbrev Own : Imports → Result (Option Import) Refusal → Imports → Type 0

@@ -1,15 +1,10 @@
 -- A walk over certificates lists what their table lists.
-use Rattle.std.proofs.Common.{◌≡◌, ◌≢◌, ℕ, zero, suc, ◌+◌, ◌-◌, ◌<◌, ◌≤◌, Bool, true, false, cond, List, [], ◌∷◌, length, Result, Ok, Err, refl, sym, ap, ◌∙◌, arith}
-use Rattle.std.specs.Prelude.{nat_lt}
-use Rattle.std.proofs.lemmas.Bool.Decides.{nat_tests}
-use Rattle.pe_core.specs.Bytes.{holds}
-use Rattle.pe_core.specs.Refusals.{Refusal, ◌>>=◌}
+use Rattle.std.proofs.Common.{◌≡◌, ◌≢◌, ℕ, zero, suc, ◌+◌, ◌-◌, ◌<◌, ◌≤◌, Bool, true, false, List, [], ◌∷◌, length, Result, Ok, Err, refl, sym, ap, ◌∙◌, arith}
+use Rattle.calls_directories.proofs.Cited.{nat_lt, nat_tests, holds, Refusal, ◌>>=◌, Range}
 use Rattle.pe_core.proofs.Comparisons.{lt_is, lt_is_not, le_is}
 use Rattle.pe_records.proofs.CertificateListings.{next_above}
 use Rattle.pe_records.specs.Certificates.{CertificateView, certificate_at, certificates_from, certificates_at}
-use Rattle.calls_base.specs.declared.ranges.Range.{Range}
 use Rattle.calls_directories.specs.Certificates.{listed, walk_from}
-use Rattle.calls_base.specs.Ranges.{no_bytes}
 
 -- the first certificate, and those that a function lists from the next offset on
 abbrev first_and : (ℕ → Result (List CertificateView) Refusal) → Result (CertificateView × ℕ) Refusal → Result (List CertificateView) Refusal
@@ -21,8 +16,7 @@ same_more f g (Err r) h = refl
 
 pub none_from : (b : List ℕ) (end n p : ℕ) → end ≤ p → certificates_from b end n p ≡ Ok []
 unfolding certificates_from
-none_from b end zero p h = refl
-none_from b end (suc n) p h = rw (lt_is_not p end h) refl
+none_from b end n p h = grind (arith, lt_is_not)
 
 some_from : (b : List ℕ) (end n p : ℕ) → p < end → certificates_from b end (suc n) p ≡ first_and (certificates_from b end n) (certificate_at b p)
 unfolding certificates_from
@@ -44,24 +38,13 @@ pub at_range : (b : List ℕ) (p n : ℕ) → p + n ≤ length b → certificate
 unfolding certificates_at
 at_range b p n h = rw (le_is (p + n) (length b) h) refl
 
-after : (b : List ℕ) (w : Range) (k next : ℕ) (t : Bool) → nat_lt next (w.offset + w.length) ≡ t → w.offset + w.length ≤ length b → w.offset + w.length ≤ next + k →
-    certificates_from b (w.offset + w.length) k next ≡ listed b (cond t (record { offset = next; length = w.offset + w.length - next }) no_bytes)
-after b w k next true e h i =
-    let before : next < w.offset + w.length = grind (arith, nat_tests) in
-    let same : next + (w.offset + w.length - next) ≡ w.offset + w.length = omega arith in
-    enough b (w.offset + w.length) k (w.offset + w.length - next) next true e i (omega arith)
-    ∙ ap (λ (end : ℕ). certificates_from b end (w.offset + w.length - next) next) (sym same)
-    ∙ sym (at_range b next (w.offset + w.length - next) (omega arith))
-after b w k next false e h i =
-    none_from b (w.offset + w.length) k next (grind (arith, nat_tests)) ∙ sym (none_from b (0 + 0) 0 0 (omega arith)) ∙ sym (at_range b 0 0 (omega arith))
-
 first_listed : (b : List ℕ) (w : Range) (n : ℕ) → w.length ≡ suc n → w.offset + w.length ≤ length b → listed b w ≡ first_and (λ next. listed b (walk_from w next)) (certificate_at b w.offset)
 first_listed b w n e h =
     at_range b w.offset w.length h
     ∙ ap (λ (k : ℕ). certificates_from b (w.offset + w.length) k w.offset) e
     ∙ some_from b (w.offset + w.length) n w.offset (omega arith)
     ∙ same_more (certificates_from b (w.offset + w.length) n) (λ next. listed b (walk_from w next)) (certificate_at b w.offset)
-    (λ c next given. let further : w.offset < next = next_above b w.offset c next given in after b w n next (nat_lt next (w.offset + w.length)) refl h (omega arith))
+    (λ c next given. let further : w.offset < next = next_above b w.offset c next given in grind (arith, nat_tests, enough, at_range, none_from))
 
 -- a walk that is not at its end lists the certificate at its offset, and then what it lists from the next offset on
 pub steps_list : (b : List ℕ) (w : Range) → w.length ≢ 0 → holds b w.offset w.length ≡ true → listed b w ≡ first_and (λ next. listed b (walk_from w next)) (certificate_at b w.offset)

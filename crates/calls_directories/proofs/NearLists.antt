@@ -1,36 +1,19 @@
 -- Lists that keep windows of the section map, or read a table once.
-use Rattle.std.proofs.Common.{◌≡◌, ℕ, List, length, Option, Result, Ok, refl, sym, subst, ◌∙◌, ◌==◌}
-use Rattle.pe_core.specs.ExportAddresses.{AddressesView}
-use Rattle.pe_core.specs.Imports.{entry_size}
-use Rattle.pe_core.specs.Refusals.{Refusal, ◌>>=◌}
+use Rattle.std.proofs.Common.{◌≡◌, ℕ, List, length, Option, Result, Ok, refl, sym, subst, ◌∙◌, ◌==◌, arith}
+use Rattle.calls_directories.proofs.Cited.{AddressesView, entry_size, Refusal, ◌>>=◌, same_map, addresses_in, exported_at}
+use Rattle.calls_directories.proofs.Cited.{exported_in, StepsExports, result_number, StepsImports, StepsLibraryFunctions}
+use Rattle.calls_directories.proofs.Cited.{StepsLibraryImports, ChangeNothing, StepsKept, no_sections, bytes_at, map_of}
+use Rattle.calls_directories.proofs.Cited.{AddressTable, Exported, Export, Exports, Import, Imports, LibraryFunction}
+use Rattle.calls_directories.proofs.Cited.{LibraryFunctions, LibraryImport}
 use Rattle.calls_base.specs.DirectoryResults.{directory_number}
 use Rattle.calls_base.proofs.FilledLists.{StepsAs, hands_out_as, numbered_as}
-use Rattle.calls_base.proofs.KeptSections.{same_map}
-use Rattle.calls_directories.specs.ExportAddresses.{addresses_in, exported_at, exported_in}
-use Rattle.calls_directories.specs.Exports.{StepsExports}
-use Rattle.calls_base.specs.HandsOut.{result_number}
-use Rattle.calls_directories.specs.Imports.{StepsImports}
-use Rattle.calls_directories.specs.LibraryFunctions.{StepsLibraryFunctions}
-use Rattle.calls_directories.specs.LibraryImports.{StepsLibraryImports}
 use Rattle.calls_base.specs.Lists.{HandsOutList, Numbered, StepsByIndex}
-use Rattle.calls_base.specs.KeptSections.{ChangeNothing, StepsKept, no_sections}
 use Rattle.calls_directories.specs.KeptWalks.{StepsKeptExports, StepsKeptImports}
 use Rattle.calls_directories.specs.NearLists.{StepsKeptLibraryFunctions, StepsNear, StepsNearExports, StepsNearImports, StepsNearLibraryImports}
-use Rattle.calls_base.specs.Ranges.{bytes_at}
-use Rattle.calls_base.specs.Views.{map_of}
-use Rattle.calls_directories.specs.declared.names.export_addresses.AddressTable.{AddressTable}
-use Rattle.calls_directories.specs.declared.names.export_addresses.Exported.{Exported}
-use Rattle.calls_directories.specs.declared.names.exports.Export.{Export}
 use Rattle.calls_directories.specs.declared.names.exports.ExportWalk.{ExportWalk}
-use Rattle.calls_directories.specs.declared.names.exports.Exports.{Exports}
-use Rattle.calls_directories.specs.declared.names.imports.Import.{Import}
 use Rattle.calls_directories.specs.declared.names.imports.ImportWalk.{ImportWalk}
-use Rattle.calls_directories.specs.declared.names.imports.Imports.{Imports}
 use Rattle.calls_base.specs.declared.kept_sections.KeptSections.{KeptSections}
 use Rattle.calls_base.specs.declared.kept_sections.KeptWalk.{KeptWalk}
-use Rattle.calls_directories.specs.declared.directories.all_delay_imports.LibraryFunction.{LibraryFunction}
-use Rattle.calls_directories.specs.declared.directories.all_delay_imports.LibraryFunctions.{LibraryFunctions}
-use Rattle.calls_directories.specs.declared.names.all_imports.LibraryImport.{LibraryImport}
 use Rattle.calls_directories.specs.declared.names.near_exports.NearExports.{NearExports}
 use Rattle.calls_directories.specs.declared.names.near_imports.NearImports.{NearImports}
 use Rattle.calls_directories.specs.declared.names.near_imports.NearLibraryImports.{NearLibraryImports}
@@ -58,13 +41,7 @@ lists_exports v number s t old new before written k h =
 -- a step by the map of the view is one by sections that change nothing, which stay as they are
 steps_as_kept : {W P X R : Type 0} (place : W → P) (kept : W → KeptSections) (Steps : (ℕ → Option ℕ) → P → Result (Option X) R → P → Type 0) (v : View) (w u : W) (answer : Result (Option X) R) →
     ChangeNothing v (kept w) → kept u ≡ kept w → Steps (map_of v) (place w) answer (place u) → StepsKept place kept Steps v w answer u
-steps_as_kept place kept Steps v w u answer h stays s =
-    record {
-      steps = subst (λ (m : ℕ → Option ℕ). Steps m (place w) answer (place u)) (sym (same_map v (kept w) h)) s;
-      right = λ r. subst (ChangeNothing v) (sym stays) r;
-      same = λ e. stays;
-      refused = λ r e. stays;
-    }
+steps_as_kept place kept Steps v w u answer h stays s = grind (arith, same_map)
 
 -- a walk at its start, which keeps no sections
 abbrev exports_at : Exports → ExportWalk

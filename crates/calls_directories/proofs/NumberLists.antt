@@ -1,47 +1,24 @@
 -- Whole walks over TLS callbacks, and over what is imported of a DLL, return the numbers of their tables.
 use Rattle.std.proofs.Common.{◌≡◌, ◌⊎◌, inl, inr, ℕ, ◌+◌, ◌-◌, ◌<◌, ◌≤◌, ◌==◌, Bool, true, false, List, [], ◌∷◌, length, drop, Option, Some, None, Result, Ok, Err, refl, sym, ap, subst, ◌∙◌, arith}
-use Rattle.std.specs.Prelude.{◌&&◌, if◌then◌else◌}
-use Rattle.std.proofs.lemmas.Bool.Decides.{nat_tests}
-use Rattle.std.proofs.lemmas.List.{places, same_lists, drop_all}
-use Rattle.pe_core.specs.Bytes.{holds, le, range}
-use Rattle.pe_core.specs.Refusals.{Refusal, Short, ◌>>=◌}
-use Rattle.pe_core.specs.declared.section_table.SectionTable.{SectionTable}
-use Rattle.pe_directories.specs.DelayImports.{lookup_table}
-use Rattle.pe_directories.specs.DirectoryRefusals.{DirectoryRefusal, Image}
-use Rattle.pe_directories.specs.ImageParts.{offset_of_va, size_of_va}
+use Rattle.calls_directories.proofs.Cited.{nat_tests, places, same_lists, drop_all, holds, Refusal, Short, SectionTable}
+use Rattle.calls_directories.proofs.Cited.{lookup_table, DirectoryRefusal, Image, size_of_va, First, Items, DelayImport, size_of}
+use Rattle.calls_directories.proofs.Cited.{function_of, functions_after, functions_of, StepsCallbacks, StepsDelayedFunctions}
+use Rattle.calls_directories.proofs.Cited.{callbacks_at, first_in, first_va_in, image_parts, left_after, range_left, read_first}
+use Rattle.calls_directories.proofs.Cited.{map_of_image, bytes_at, no_bytes, range_after, ReturnsItems, read_in_turn, read_items}
+use Rattle.calls_directories.proofs.Cited.{DelayedFunction, DelayedFunctions, Range}
 use Rattle.pe_directories.specs.Tls.{callback_table}
 use Rattle.pe_directories.specs.VaTables.{first_va}
-use Rattle.pe_directories.specs.Walks.{First, Items}
-use Rattle.pe_directories.specs.declared.delay_import.DelayImport.{DelayImport}
 use Rattle.pe_directories.specs.declared.tls.TlsDirectory.{TlsDirectory}
 use Rattle.calls_directories.proofs.DelayAddresses.{same_offset}
 use Rattle.calls_directories.proofs.DirectoryLists.{held}
-use Rattle.calls_directories.proofs.DirectoryRuns.{IsWalk, Takes, as_they_are, goes_on, in_turn, makes_read, makes_reported, moved, moves_reported, next_range, over_range, refused, same_read, sees, sees_refusal, unless}
-use Rattle.calls_base.proofs.LeftBytes.{size_of}
-use Rattle.calls_directories.specs.DelayImports.{address_offset, function_of, functions_after, functions_of}
-use Rattle.calls_directories.specs.DirectoryRuns.{StepsCallbacks, StepsDelayedFunctions}
-use Rattle.calls_base.specs.Directories.{callbacks_at, first_in, first_va_in, image_parts, left_after, range_left, read_first}
-use Rattle.calls_base.specs.Images.{map_of_image}
-use Rattle.calls_base.specs.Ranges.{bytes_at, no_bytes, range_after}
-use Rattle.calls_base.specs.Runs.{ReturnsItems, and_after, read_in_turn, read_items}
-use Rattle.calls_directories.specs.declared.directories.delay_imports.DelayedFunction.{DelayedFunction}
-use Rattle.calls_directories.specs.declared.directories.delay_imports.DelayedFunctions.{DelayedFunctions}
+use Rattle.calls_directories.proofs.DirectoryRuns.{IsWalk, Takes, as_they_are, goes_on, in_turn, makes_read, makes_reported, moved, moves_reported, next_range, over_range, refused, same_read, sees, sees_refusal}
 use Rattle.calls_base.specs.declared.image.Image as images
-use Rattle.calls_base.specs.declared.ranges.Range.{Range}
 
 -- ---- what stands first, and what it leaves
 
-va_by : (b : List ℕ) (n value : ℕ) (whole zero : Bool) (x : ℕ) (t : List ℕ) → holds b 0 n ≡ whole →
-    ◌≡◌ {A = First ℕ (List ℕ)} (if whole then (if zero then None else Some (Ok (value, drop n b))) else Some (Err (Image Short))) (Some (Ok (x, t))) → (t ≡ drop n b) × (n ≤ length b)
-va_by b n value false zero x t i e = absurd (cc (e))
-va_by b n value true true x t i e = absurd (cc (e))
-va_by b n value true false x t i e =
-    let pair : (value, drop n b) ≡ (x, t) = cc (e) in
-    (sym (ap (λ (p : ℕ × List ℕ). p.1) pair), held b n i)
-
 pub va_taken : (is_64 : Bool) → Takes (first_va is_64) (λ x. size_of_va is_64)
 unfolding first_va
-va_taken is_64 b x t e = va_by b (size_of_va is_64) (le b 0 (size_of_va is_64)) (holds b 0 (size_of_va is_64)) (le b 0 (size_of_va is_64) == 0) x t refl e
+va_taken is_64 = grind (arith, held)
 
 -- ---- TLS callbacks, and what is imported of a DLL
 
@@ -49,11 +26,8 @@ va_taken is_64 b x t e = va_by b (size_of_va is_64) (le b 0 (size_of_va is_64)) 
 abbrev pub HoldsNumbers : List ℕ → Range → List ℕ → Type 0
 HoldsNumbers b w s = (bytes_at b w ≡ Ok s) × (0 < w.offset + w.length)
 
-not_over : (p n : ℕ) → 0 < p + n → (p == 0 && n == 0) ≡ false
-not_over p n h = grind (arith, nat_tests)
-
 sees_numbers : (image : images.Image) (b : List ℕ) (w : Range) → 0 < w.offset + w.length → first_va_in image b w ≡ first_in (first_va (image.width == 64)) b w
-sees_numbers image b w h = rw (not_over w.offset w.length h) refl
+sees_numbers image b w h = grind (arith, nat_tests)
 
 numbers_go_on : (b : List ℕ) (w : Range) (s t : List ℕ) (n : ℕ) → HoldsNumbers b w s → t ≡ drop n s → n ≤ length s → (range_left w (length t) ≡ range_after w n) × HoldsNumbers b (range_after w n) t
 numbers_go_on b w s t n h is some =
@@ -84,8 +58,7 @@ callbacks_in_turn b image w s items some h f =
     (in_turn _ _ _ _ _ _ _ _ (callback_walk image b) w s items (h, some) f)
 
 pub callbacks_outside : (b : List ℕ) (image : images.Image) (w : Range) (r : Refusal) → 0 < w.offset + w.length → bytes_at b w ≡ Err r → ReturnsItems (StepsCallbacks image b) w (Err (Image r) ∷ [])
-callbacks_outside b image w r some e =
-    refused _ _ _ _ _ _ _ _ (callback_walk image b) w (Image r) (sees_numbers image b w some ∙ sees_refusal (first_va (wide image)) b w r e)
+callbacks_outside b image w r some e = grind (arith, refused, callback_walk, sees_numbers, sees_refusal)
 
 abbrev pub function_read : (ℕ → Option ℕ) → List ℕ → images.Image → DelayedFunctions → ℕ → Result DelayedFunction DirectoryRefusal
 function_read offset b image w number = function_of offset b image w.attributes number
@@ -102,14 +75,8 @@ next_function w x t = record w { left = range_left w.left (length t) }
 abbrev pub over_functions : DelayedFunctions → DelayedFunctions
 over_functions w = record w { left = no_bytes }
 
-functions_by : (w : DelayedFunctions) (t : List ℕ) (a : Result DelayedFunction DirectoryRefusal) → functions_after w (Some (a >>= λ y. Ok (y, t))) ≡ unless a (record w { left = range_left w.left (length t) }) (record w { left = no_bytes })
-functions_by w t (Ok y) = refl
-functions_by w t (Err r) = refl
-
 functions_move : (offset : ℕ → Option ℕ) (b : List ℕ) (image : images.Image) (w : DelayedFunctions) (f : First ℕ (List ℕ)) → functions_after w (read_first (function_read offset b image w) f) ≡ moved (function_read offset b image w) (next_function w) (over_functions w) w f
-functions_move offset b image w None = refl
-functions_move offset b image w (Some (Ok x)) = functions_by w x.1 (function_read offset b image w x.0)
-functions_move offset b image w (Some (Err r)) = refl
+functions_move offset b image w f = grind arith
 
 function_walk : (offset : ℕ → Option ℕ) (b : List ℕ) (image : images.Image) → IsWalk (StepsDelayedFunctions offset b image) (first_va (wide image)) (numbers_at b image) (function_read offset b image) (past_function image) next_function over_functions (λ w s. HoldsNumbers b w.left s)
 function_walk offset b image = record {
@@ -125,8 +92,7 @@ function_walk offset b image = record {
 same_functions : (offset : ℕ → Option ℕ) (b : List ℕ) (image : images.Image) (w : DelayedFunctions) (items : List (Result ℕ DirectoryRefusal)) →
     read_in_turn (function_read offset b image) (past_function image) w items ≡ read_items (function_of offset b image w.attributes) items
 same_functions offset b image w [] = refl
-same_functions offset b image w (Ok x ∷ items) =
-    ap (λ (ys : List (Result DelayedFunction DirectoryRefusal)). and_after (function_of offset b image w.attributes x) ys) (same_functions offset b image (past_function image w x) items)
+same_functions offset b image w (Ok x ∷ items) = grind (arith, same_functions offset b image (past_function image w x) items)
 same_functions offset b image w (Err r ∷ items) = refl
 
 pub functions_in_turn : (offset : ℕ → Option ℕ) (b : List ℕ) (image : images.Image) (w : DelayedFunctions) (s : List ℕ) (items : List (Result ℕ DirectoryRefusal)) → 0 < w.left.offset + w.left.length → bytes_at b w.left ≡ Ok s → Items (first_va (wide image)) s items →
@@ -136,63 +102,39 @@ functions_in_turn offset b image w s items some h f =
     (in_turn _ _ _ _ _ _ _ _ (function_walk offset b image) w s items (h, some) f)
 
 pub functions_outside : (offset : ℕ → Option ℕ) (b : List ℕ) (image : images.Image) (w : DelayedFunctions) (r : Refusal) → 0 < w.left.offset + w.left.length → bytes_at b w.left ≡ Err r → ReturnsItems (StepsDelayedFunctions offset b image) w (Err (Image r) ∷ [])
-functions_outside offset b image w r some e =
-    refused _ _ _ _ _ _ _ _ (function_walk offset b image) w (Image r) (sees_numbers image b w.left some ∙ sees_refusal (first_va (wide image)) b w.left r e)
+functions_outside offset b image w r some e = grind (arith, refused, function_walk, sees_numbers, sees_refusal)
 
 -- ---- tables of numbers that start at an offset and have no length
-
-range_to_end : (b : List ℕ) (p : ℕ) → p ≤ length b → range b p (length b - p) ≡ drop p b
-range_to_end b p h = same_lists _ _ (grind (arith, places)) (λ j d lt. grind (arith, places))
 
 abbrev pub tail_from : List ℕ → ℕ → Range
 tail_from b p = record { offset = p; length = length b - p }
 
 pub tail_there : (b : List ℕ) (p : ℕ) (inside : Bool) → holds b p (length b - p) ≡ inside → (bytes_at b (tail_from b p) ≡ Ok (drop p b)) ⊎ ((bytes_at b (tail_from b p) ≡ Err Short) × (drop p b ≡ []))
-tail_there b p true h = inl (rw h (ap (λ (d : List ℕ). Ok d) (range_to_end b p (grind (arith, nat_tests)))))
+tail_there b p true h =
+    inl (rw h (ap (λ (d : List ℕ). Ok d) (same_lists _ _ (grind (arith, places)) (λ j d lt. grind (arith, places)))))
 tail_there b p false h = inr (rw h refl, drop_all p b (grind (arith, nat_tests)))
 
 -- the list of no bytes is one refusal
 no_number : (is_64 : Bool) → first_va is_64 [] ≡ Some (Err (Image Short))
 unfolding first_va
-no_number true = refl
-no_number false = refl
+no_number is_64 = grind arith
 
 truncated : (is_64 : Bool) (items : List (Result ℕ DirectoryRefusal)) → Items (first_va is_64) [] items → items ≡ Err (Image Short) ∷ []
 truncated is_64 [] f = absurd (let none : ◌≡◌ {A = First ℕ (List ℕ)} (Some (Err (Image Short))) None = sym (no_number is_64) ∙ f in cc)
 truncated is_64 (Ok x ∷ items) f = absurd (let none : ◌≡◌ {A = First ℕ (List ℕ)} (Some (Err (Image Short))) (Some (Ok (x, f.0))) = sym (no_number is_64) ∙ f.1 in cc)
-truncated is_64 (Err r ∷ items) f =
-    let same : ◌≡◌ {A = First ℕ (List ℕ)} (Some (Err (Image Short))) (Some (Err r)) = sym (no_number is_64) ∙ f.0 in
-    let refusal : Image Short ≡ r = cc in
-    ap (λ (e : DirectoryRefusal). Err e ∷ items) (sym refusal) ∙ ap (λ (xs : List (Result ℕ DirectoryRefusal)). Err (Image Short) ∷ xs) f.1
+truncated is_64 (Err r ∷ items) f = grind (arith, no_number)
 
 some_left : (n p : ℕ) → 0 < n → 0 < p + (n - p)
 some_left n p h = omega arith
 
 callbacks_by : (b : List ℕ) (image : images.Image) (p : ℕ) (items : List (Result ℕ DirectoryRefusal)) → 0 < length b → Items (first_va (wide image)) (drop p b) items →
     ((bytes_at b (tail_from b p) ≡ Ok (drop p b)) ⊎ ((bytes_at b (tail_from b p) ≡ Err Short) × (drop p b ≡ []))) → ReturnsItems (StepsCallbacks image b) (tail_from b p) items
-callbacks_by b image p items some f (inl h) = callbacks_in_turn b image (tail_from b p) (drop p b) items (some_left (length b) p some) h f
-callbacks_by b image p items some f (inr h) =
-    subst (λ (xs : List (Result ℕ DirectoryRefusal)). ReturnsItems (StepsCallbacks image b) (tail_from b p) xs)
-    (sym (truncated (wide image) items (subst (λ (d : List ℕ). Items (first_va (wide image)) d items) h.1 f)))
-    (callbacks_outside b image (tail_from b p) Short (some_left (length b) p some) h.0)
-
-callbacks_from : (b : List ℕ) (image : images.Image) (none : Bool) (at : Result ℕ DirectoryRefusal) (w : Range) (table : List ℕ) (items : List (Result ℕ DirectoryRefusal)) → 0 < length b →
-    ◌≡◌ {A = Result (Option Range) DirectoryRefusal} (if none then Ok None else (at >>= λ p. Ok (Some (record { offset = p; length = length b - p })))) (Ok (Some w)) →
-    ◌≡◌ {A = Result (Option (List ℕ)) DirectoryRefusal} (if none then Ok None else ((at >>= λ p. Ok (drop p b)) >>= λ t. Ok (Some t))) (Ok (Some table)) →
-    Items (first_va (wide image)) table items → ReturnsItems (StepsCallbacks image b) w items
-callbacks_from b image true at w table items some e g f = absurd (cc (e))
-callbacks_from b image false (Err r) w table items some e g f = absurd (cc (e))
-callbacks_from b image false (Ok p) w table items some e g f =
-    let walk : tail_from b p ≡ w = cc (e) in
-    let bytes : drop p b ≡ table = cc (g) in
-    subst (λ (v : Range). ReturnsItems (StepsCallbacks image b) v items) walk
-    (callbacks_by b image p items some (subst (λ (d : List ℕ). Items (first_va (wide image)) d items) (sym bytes) f) (tail_there b p (holds b p (length b - p)) refl))
+callbacks_by b image p items some f e = grind (arith, callbacks_in_turn, some_left, truncated, callbacks_outside)
 
 pub callbacks_of_image : (b : List ℕ) (image : images.Image) (sections : List SectionTable) (tls : TlsDirectory) (w : Range) (table : List ℕ) (items : List (Result ℕ DirectoryRefusal)) → 0 < length b →
     callbacks_at b image (λ _. sections) tls ≡ Ok (Some w) → callback_table (image_parts b image sections) tls ≡ Ok (Some table) → Items (first_va (wide image)) table items → ReturnsItems (StepsCallbacks image b) w items
 unfolding callback_table
-callbacks_of_image b image sections tls w table items some e g f =
-    callbacks_from b image (tls.address_of_callbacks == 0) (offset_of_va (image_parts b image sections) tls.address_of_callbacks) w table items some e g f
+callbacks_of_image b image sections tls w table items some e g f = grind (arith, callbacks_by, tail_there)
 
 functions_by_offset : (offset : ℕ → Option ℕ) (b : List ℕ) (image : images.Image) (attributes p : ℕ) (items : List (Result ℕ DirectoryRefusal)) →
     0 < length b → Items (first_va (wide image)) (drop p b) items →
@@ -200,26 +142,9 @@ functions_by_offset : (offset : ℕ → Option ℕ) (b : List ℕ) (image : imag
     ReturnsItems (StepsDelayedFunctions offset b image) (record { left = tail_from b p; attributes = attributes; spare = 0 }) (read_items (function_of offset b image attributes) items)
 functions_by_offset offset b image attributes p items some f (inl h) =
     functions_in_turn offset b image (record { left = tail_from b p; attributes = attributes; spare = 0 }) (drop p b) items (some_left (length b) p some) h f
-functions_by_offset offset b image attributes p items some f (inr h) =
-    subst (λ (xs : List (Result ℕ DirectoryRefusal)). ReturnsItems (StepsDelayedFunctions offset b image) (record { left = tail_from b p; attributes = attributes; spare = 0 }) (read_items (function_of offset b image attributes) xs))
-    (sym (truncated (wide image) items (subst (λ (d : List ℕ). Items (first_va (wide image)) d items) h.1 f)))
-    (functions_outside offset b image (record { left = tail_from b p; attributes = attributes; spare = 0 }) Short (some_left (length b) p some) h.0)
-
-functions_from : (offset : ℕ → Option ℕ) (b : List ℕ) (image : images.Image) (attributes : ℕ) (at : Result ℕ DirectoryRefusal) (w : DelayedFunctions) (table : List ℕ) (items : List (Result ℕ DirectoryRefusal)) → 0 < length b →
-    ◌≡◌ {A = Result DelayedFunctions DirectoryRefusal} (at >>= λ p. Ok (record { left = record { offset = p; length = length b - p }; attributes = attributes; spare = 0 })) (Ok w) →
-    ◌≡◌ {A = Result (Option (List ℕ)) DirectoryRefusal} (at >>= λ p. Ok (Some (drop p b))) (Ok (Some table)) →
-    Items (first_va (wide image)) table items → ReturnsItems (StepsDelayedFunctions offset b image) w (read_items (function_of offset b image attributes) items)
-functions_from offset b image attributes (Err r) w table items some e g f = absurd (cc (e))
-functions_from offset b image attributes (Ok p) w table items some e g f =
-    let walk : record { left = tail_from b p; attributes = attributes; spare = 0 } ≡ w = cc (e) in
-    let bytes : drop p b ≡ table = cc (g) in
-    subst (λ (v : DelayedFunctions). ReturnsItems (StepsDelayedFunctions offset b image) v (read_items (function_of offset b image attributes) items)) walk
-    (functions_by_offset offset b image attributes p items some (subst (λ (d : List ℕ). Items (first_va (wide image)) d items) (sym bytes) f) (tail_there b p (holds b p (length b - p)) refl))
+functions_by_offset offset b image attributes p items some f (inr h) = grind (arith, truncated, functions_outside, some_left)
 
 pub functions_of_library : (b : List ℕ) (image : images.Image) (sections : List SectionTable) (e : DelayImport) (w : DelayedFunctions) (table : List ℕ) (items : List (Result ℕ DirectoryRefusal)) → 0 < length b →
     functions_of (map_of_image image sections) b image e ≡ Ok w → lookup_table (image_parts b image sections) e ≡ Ok (Some table) → Items (first_va (wide image)) table items →
     ReturnsItems (StepsDelayedFunctions (map_of_image image sections) b image) w (read_items (function_of (map_of_image image sections) b image e.attributes) items)
-functions_of_library b image sections e w table items some h g f =
-    let offset = map_of_image image sections in
-    let same = ap (λ (at : Result ℕ DirectoryRefusal). ◌>>=◌ {B = Option (List ℕ)} at (λ p. Ok (Some (drop p b)))) (same_offset b image sections e e.import_name_table) in
-    functions_from offset b image e.attributes (address_offset offset image.base e.attributes e.import_name_table) w table items some h (same ∙ g) f
+functions_of_library b image sections e w table items some h g f = grind (arith, same_offset, functions_by_offset, tail_there)

@@ -1,24 +1,15 @@
 -- Whole walks over metadata streams return the streams of their headers.
-use Rattle.std.proofs.Common.{◌≡◌, ℕ, ◌+◌, ◌-◌, ◌<◌, ◌≤◌, ◌==◌, Bool, true, false, List, [], ◌∷◌, length, take, drop, length-take-le, Option, Some, None, Result, Ok, Err, refl, sym, ap, subst, ◌∙◌, arith}
-use Rattle.std.specs.Prelude.{if◌then◌else◌, nat_le, position}
-use Rattle.std.proofs.lemmas.List.Quantifiers.{position-Some}
-use Rattle.pe_core.specs.Bytes.{holds, le, range, record_at}
-use Rattle.pe_core.specs.Refusals.{Short, outcome, ◌>>=◌}
-use Rattle.pe_directories.specs.Clr.{Stream, first_stream, header_size, name_field, name_length, named, stream_of}
-use Rattle.pe_directories.specs.DirectoryRefusals.{DirectoryRefusal, Image}
-use Rattle.pe_directories.specs.Walks.{First, Items}
+use Rattle.std.proofs.Common.{◌≡◌, ℕ, ◌+◌, ◌-◌, ◌≤◌, ◌==◌, Bool, true, false, List, [], ◌∷◌, length, take, drop, length-take-le, Some, None, Result, Ok, Err, refl, sym, ap, subst, ◌∙◌, arith}
+use Rattle.calls_directories.proofs.Cited.{if◌then◌else◌, nat_le, position-Some, holds, le, range, record_at, Short, outcome, ◌>>=◌}
+use Rattle.calls_directories.proofs.Cited.{Stream, first_stream, header_size, name_field, name_length, stream_of, DirectoryRefusal}
+use Rattle.calls_directories.proofs.Cited.{Image, First, Items, size_of, first_stream_in, no_streams, stream_reported}
+use Rattle.calls_directories.proofs.Cited.{streams_after, streams_in, HasContent, HasStream, StepsStreams, after_stream}
+use Rattle.calls_directories.proofs.Cited.{streams_reported, first_of, range_left, bytes_at, range_after, EachHas, ReturnsItems}
+use Rattle.calls_directories.proofs.Cited.{MetadataStreams, Range}
 use Rattle.calls_directories.proofs.DirectoryLists.{held}
 use Rattle.calls_directories.proofs.DirectoryParts.{content_stands, name_of_stream_stands}
 use Rattle.calls_directories.proofs.DirectoryRuns.{IsWalk, each_has, goes_on, in_turn, makes_reported, moved, no_bytes_at, refused}
-use Rattle.calls_base.proofs.LeftBytes.{size_of}
-use Rattle.calls_directories.specs.Clr.{first_stream_in, no_streams, stream_reported, streams_after, streams_in}
-use Rattle.calls_directories.specs.DirectoryRuns.{HasContent, HasStream, StepsStreams, after_stream, streams_reported}
-use Rattle.calls_base.specs.Directories.{first_of, range_left}
-use Rattle.calls_base.specs.Ranges.{bytes_at, range_after}
-use Rattle.calls_base.specs.Runs.{EachHas, ReturnsItems}
 use Rattle.calls_directories.specs.declared.directories.clr.MetadataStream.{MetadataStream}
-use Rattle.calls_directories.specs.declared.directories.clr.MetadataStreams.{MetadataStreams}
-use Rattle.calls_base.specs.declared.ranges.Range.{Range}
 
 -- ---- what stands first, and what it leaves
 
@@ -28,28 +19,11 @@ IsTaken b s t = (t ≡ drop (header_size (length s.name)) b) × (header_size (le
 
 header_by : (b : List ℕ) (n : ℕ) (whole : Bool) (s : Stream) (t : List ℕ) → n ≤ length (name_field b) → holds b 0 (header_size n) ≡ whole →
     outcome {Y = Stream × List ℕ} ((whole, Image Short) ∷ []) (record { offset = le b 0 4; size = le b 4 4; name = take n (name_field b) }, drop (header_size n) b) ≡ Ok (s, t) → IsTaken b s t
-header_by b n false s t h i e = absurd (cc (e))
-header_by b n true s t h i e =
-    let pair : (record { offset = le b 0 4; size = le b 4 4; name = take n (name_field b) }, drop (header_size n) b) ≡ (s, t) = cc (e) in
-    let size : length s.name ≡ n = sym (ap (λ (p : Stream × List ℕ). length p.0.name) pair) ∙ length-take-le n (name_field b) h in (
-      sym (ap (λ (p : Stream × List ℕ). p.1) pair) ∙ ap (λ (k : ℕ). drop (header_size k) b) (sym size),
-      subst (λ (k : ℕ). header_size k ≤ length b) (sym size) (held b (header_size n) i),
-    )
-
-named_by : (b : List ℕ) (at : Option ℕ) (s : Stream) (t : List ℕ) → position (λ c. c == 0) (name_field b) ≡ at → named b at ≡ Ok (s, t) → IsTaken b s t
-named_by b None s t p e = absurd (cc (e))
-named_by b (Some n) s t p e =
-    let before : n < length (name_field b) = (position-Some (λ c. c == 0) (name_field b) n 0 p).0 in
-    header_by b n (holds b 0 (header_size n)) s t (omega (arith, before)) refl e
-
-stream_by : (b : List ℕ) (head : Bool) (s : Stream) (t : List ℕ) → (if head then named b (name_length (name_field b)) else Err (Image Short)) ≡ Ok (s, t) → IsTaken b s t
-unfolding name_length
-stream_by b false s t e = absurd (cc (e))
-stream_by b true s t e = named_by b (position (λ c. c == 0) (name_field b)) s t refl e
+header_by b n whole s t h i e = grind (arith, length-take-le, held)
 
 stream_taken : (b : List ℕ) (s : Stream) (t : List ℕ) → stream_of b ≡ Ok (s, t) → IsTaken b s t
-unfolding stream_of
-stream_taken b s t e = stream_by b (holds b 0 8) s t e
+unfolding stream_of name_length
+stream_taken b s t e = grind (arith, position-Some, header_by)
 
 first_by : (b : List ℕ) (n : ℕ) (none : Bool) (found : Result (Stream × List ℕ) DirectoryRefusal) (s : Stream) (t : ℕ × List ℕ) → stream_of b ≡ found →
     (if none then None else Some (◌>>=◌ {B = Stream × (ℕ × List ℕ)} found (λ y. Ok (y.0, (n, y.1))))) ≡ Some (Ok (s, t)) → (t.0 ≡ n) × IsTaken b s t.1
@@ -62,9 +36,6 @@ first_by b n false (Ok y) s t h e =
       sym (ap (λ (p : Stream × (ℕ × List ℕ)). p.1.0) pair),
       subst (λ (d : List ℕ). IsTaken b s d) rest (subst (λ (x : Stream). IsTaken b x y.1) stream (stream_taken b y.0 y.1 h)),
     )
-
-first_taken : (s : ℕ × List ℕ) (x : Stream) (t : ℕ × List ℕ) → first_stream s ≡ Some (Ok (x, t)) → (t.0 ≡ s.0 - 1) × IsTaken s.1 x t.1
-first_taken s x t e = first_by s.1 (s.0 - 1) (s.0 == 0) (stream_of s.1) x t refl e
 
 -- ---- the walk
 
@@ -82,29 +53,24 @@ abbrev over_streams : MetadataStreams → MetadataStreams
 over_streams w = no_streams
 
 streams_move : (w : MetadataStreams) (f : First Stream (ℕ × List ℕ)) → streams_after w f ≡ moved (λ (x : Stream). Ok (stream_reported w x)) (next_streams w) no_streams w f
-streams_move w None = refl
-streams_move w (Some (Ok x)) = refl
-streams_move w (Some (Err r)) = refl
+streams_move w f = grind arith
 
 streams_go_on : (b metadata : List ℕ) (w : MetadataStreams) (s : ℕ × List ℕ) (x : Stream) (t : ℕ × List ℕ) → HoldsStreams b metadata w s → first_stream s ≡ Some (Ok (x, t)) →
     (next_streams w x t ≡ after_stream w x) × HoldsStreams b metadata (after_stream w x) t
 streams_go_on b metadata w s x t h e =
-    let taken = first_taken s x t e in
+    let taken = first_by s.1 (s.0 - 1) (s.0 == 0) (stream_of s.1) x t refl e in
     let on = goes_on b w.headers s.1 t.1 (header_size (length x.name)) h.1 taken.1.0 taken.1.1 in
     let count : w.count - 1 ≡ t.0 = ap (λ (n : ℕ). n - 1) h.2 ∙ sym taken.0 in (
       ap (λ (r : Range). record w { headers = r; count = t.0 }) on.0 ∙ ap (λ (n : ℕ). record w { headers = range_after w.headers (header_size (length x.name)); count = n }) (sym count),
       (h.0, on.1, count),
     )
 
-no_stream_left : (b : List ℕ) → first_stream_in b no_streams ≡ None
-no_stream_left b = ap (first_of first_stream) (streams_there b [] no_streams (0, []) (no_bytes_at b, no_bytes_at b, refl))
-
 stream_walk : (b metadata : List ℕ) → IsWalk (StepsStreams b) first_stream (first_stream_in b) (λ w x. Ok (stream_reported w x)) after_stream next_streams over_streams (HoldsStreams b metadata)
 stream_walk b metadata = record {
   sees = λ w s h. ap (first_of first_stream) (streams_there b metadata w s h);
   makes = makes_reported stream_reported (first_stream_in b) streams_after next_streams over_streams streams_move;
   goes_on = streams_go_on b metadata;
-  ends = λ w. no_stream_left b;
+  ends = λ w. (ap (first_of first_stream) (streams_there b [] no_streams (0, []) (no_bytes_at b, no_bytes_at b, refl)));
 }
 
 -- ---- the parts of a stream
@@ -115,9 +81,7 @@ content_by b metadata w s true h i e = let stands = rw h at (content_stands b me
 content_by b metadata w s false h i e = rw i (rw h refl)
 
 content_has : (b metadata : List ℕ) (w : MetadataStreams) (s : Stream) → bytes_at b w.metadata ≡ Ok metadata → HasContent b (stream_reported w s) (record_at metadata s.offset s.size (range metadata s.offset s.size))
-content_has b metadata w s e =
-    let size : length metadata ≡ w.metadata.length = size_of b w.metadata metadata e in
-    content_by b metadata w s (nat_le (s.offset + s.size) w.metadata.length) refl (ap (λ (n : ℕ). nat_le (s.offset + s.size) n) size) e
+content_has b metadata w s e = grind (arith, size_of, content_by)
 
 stream_has : (b metadata : List ℕ) (w : MetadataStreams) (s : ℕ × List ℕ) (x : Stream) (t : ℕ × List ℕ) (y : MetadataStream) → HoldsStreams b metadata w s → first_stream s ≡ Some (Ok (x, t)) →
     ◌≡◌ {A = Result MetadataStream DirectoryRefusal} (Ok (stream_reported w x)) (Ok y) → HasStream b metadata y x

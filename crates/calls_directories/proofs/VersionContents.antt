@@ -1,32 +1,15 @@
 -- The content of a resource, by its data entry.
-use Rattle.std.proofs.Common.{◌≡◌, ℕ, Bool, true, false, List, [], ◌∷◌, Option, Some, None, Result, Ok, Err, refl, ap, sym, ◌∙◌, subst}
-use Rattle.pe_core.specs.Bytes.{holds}
-use Rattle.pe_core.specs.Refusals.{Refusal, Short, outcome, ◌>>=◌}
-use Rattle.pe_core.specs.declared.byte_range.ByteRange.{ByteRange}
-use Rattle.pe_core.specs.declared.section_table.SectionTable.{SectionTable}
-use Rattle.pe_resource.specs.Contents.{IsContentRange, IsDataEntry, data_entry_at, data_entry_in, file_range, named_range, range_in}
-use Rattle.pe_resource.specs.Resources.{FirstDirectoryView, IsOfFirst, IsResourceEntry, first_directory}
+use Rattle.std.proofs.Common.{◌≡◌, ℕ, Bool, true, false, List, Option, Some, None, Result, Ok, Err, ap, ◌∙◌, arith}
+use Rattle.calls_directories.proofs.Cited.{Refusal, ◌>>=◌, ByteRange, SectionTable, IsContentRange, IsDataEntry, named_range}
+use Rattle.calls_directories.proofs.Cited.{FirstDirectoryView, IsOfFirst, IsResourceEntry, first_directory, ResourceEntry}
+use Rattle.calls_directories.proofs.Cited.{is_absent, map_by, resource_directory, options_of, IsContentBy, IsContentOf, entry_range}
 use Rattle.pe_resource.specs.declared.content.ResourceDataEntry.{ResourceDataEntry}
-use Rattle.pe_resource.specs.declared.entry.ResourceEntry.{ResourceEntry}
-use Rattle.calls_base.specs.Images.{is_absent, map_by, resource_directory}
-use Rattle.calls_base.specs.Modes.{options_of}
-use Rattle.calls_directories.specs.Versions.{IsContentBy, IsContentOf, entry_range}
 use Rattle.calls_base.specs.declared.image.Image.{Image}
-
-by_test : (f : List ℕ) (offset : ℕ → Option ℕ) (e : ResourceDataEntry) (inside : Bool) →
-    (outcome ((inside, Short) ∷ []) (Some e) >>= entry_range f offset) ≡ ((outcome ((inside, Short) ∷ []) e >>= λ d. file_range f d.size (offset d.offset_to_data)) >>= λ r. Ok (Some r))
-by_test f offset e true = refl
-by_test f offset e false = refl
-
-by_leaf : (f b : List ℕ) (offset : ℕ → Option ℕ) (leaf : Result (Option ℕ) Refusal) → ((leaf >>= data_entry_in b) >>= entry_range f offset) ≡ (leaf >>= range_in offset f b)
-unfolding named_range
-by_leaf f b offset (Err e) = refl
-by_leaf f b offset (Ok None) = refl
-by_leaf f b offset (Ok (Some p)) = by_test f offset (data_entry_at b p) (holds b p 16)
 
 content_of_entry : (f b : List ℕ) (offset : ℕ → Option ℕ) (es : List ResourceEntry) (id : ℕ) (e : Result (Option ResourceDataEntry) Refusal) →
     IsDataEntry b es id e → IsContentRange offset f b es id (e >>= entry_range f offset)
-content_of_entry f b offset es id e h = (h.0, h.1, ap (λ (x : Result (Option ResourceDataEntry) Refusal). x >>= entry_range f offset) h.2 ∙ by_leaf f b offset h.0)
+unfolding named_range
+content_of_entry f b offset es id e h = (h.0, h.1, ap (λ (x : Result (Option ResourceDataEntry) Refusal). x >>= entry_range f offset) h.2 ∙ (grind arith))
 
 content_of_first : (f : List ℕ) (offset : ℕ → Option ℕ) (id : ℕ) (first : Result (Option FirstDirectoryView) Refusal) (e : Result (Option ResourceDataEntry) Refusal) →
     IsOfFirst None (λ d. IsDataEntry d.bytes d.entries id) first e → IsOfFirst None (λ d. IsContentRange offset f d.bytes d.entries id) first (e >>= entry_range f offset)
@@ -45,5 +28,4 @@ pub content_from_entry : (b : List ℕ) (image : Image) (may_map : ℕ → List 
     is_absent (resource_directory image) ≡ false →
     IsResourceEntry (options_of image.mode) b (resource_directory image) id (may_map (resource_directory image).virtual_address) image.file_alignment e →
     r ≡ (e >>= entry_range b (map_by image may_map)) → IsContentOf b image may_map image.mode id r
-content_from_entry b image may_map id e r there h is =
-    subst (λ (x : Result (Option ByteRange) Refusal). IsContentOf b image may_map image.mode id x) (sym is) (by_absence (is_absent (resource_directory image)) b image may_map id e there h)
+content_from_entry b image may_map id e r there h is = grind (arith, by_absence)

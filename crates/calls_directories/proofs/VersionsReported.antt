@@ -1,25 +1,17 @@
 -- What is reported of versions is what the resources hold.
-use Rattle.std.proofs.Common.{◌≡◌, ℕ, Bool, false, List, Option, Some, None, Result, Ok, Err, refl, ap, sym, ◌∙◌, subst}
-use Rattle.std.specs.Option.{option_map}
-use Rattle.pe_core.proofs.Steps.{same_inside}
+use Rattle.std.proofs.Common.{◌≡◌, ℕ, Bool, false, List, Option, Some, None, Result, Ok, refl, sym, subst, arith}
+use Rattle.calls_directories.proofs.Cited.{option_map, same_inside, Refusal, ◌>>=◌, ByteRange, SectionTable, IsThere, inner}
+use Rattle.calls_directories.proofs.Cited.{version_of_content, ResourceView, IsResourceRange, HandsOutIf, is_absent}
+use Rattle.calls_directories.proofs.Cited.{resource_directory, options_of, range_of, IsRange, IsContentBy, IsContentOf}
+use Rattle.calls_directories.proofs.Cited.{HandsOutManifest, fixed_at, HandsOutFixed, value_at, HandsOutText, AreImageResources}
+use Rattle.calls_directories.proofs.Cited.{ReportsRange, fixed_of, version_value, Range}
 use Rattle.pe_core.specs.Offsets.{bytes_in, IsWithin}
-use Rattle.pe_core.specs.Refusals.{Refusal, ◌>>=◌}
-use Rattle.pe_core.specs.declared.byte_range.ByteRange.{ByteRange}
-use Rattle.pe_core.specs.declared.section_table.SectionTable.{SectionTable}
-use Rattle.pe_resource.specs.Contents.{IsThere, inner, version_of_content}
-use Rattle.pe_resource.specs.Resources.{ResourceView, IsResourceRange}
 use Rattle.pe_resource.specs.VersionFields.{VersionView, value_named, version_in}
 use Rattle.pe_resource.specs.declared.version.VersionName.{VersionName}
 use Rattle.pe_resource.specs.declared.version.VsFixedFileInfo.{VsFixedFileInfo}
 use Rattle.pe_resource.proofs.ContentRanges.{manifest_in, version_in_range, version_fixed, version_named}
 use Rattle.pe_resource.proofs.ValueRanges.{inner_bytes}
-use Rattle.calls_base.specs.HandsOut.{HandsOutIf}
-use Rattle.calls_base.specs.Images.{is_absent, resource_directory}
-use Rattle.calls_base.specs.Modes.{options_of}
-use Rattle.calls_base.specs.Ranges.{range_of, IsRange}
-use Rattle.calls_directories.specs.Versions.{IsContentBy, IsContentOf, HandsOutManifest, fixed_at, HandsOutFixed, value_at, HandsOutText, AreImageResources, ReportsRange, fixed_of, version_value}
 use Rattle.calls_base.specs.declared.image.Image.{Image}
-use Rattle.calls_base.specs.declared.ranges.Range.{Range}
 
 content_range : (b : List ℕ) (image : Image) (sections : List SectionTable) (mode id : ℕ) (r : Result (Option ByteRange) Refusal) → is_absent (resource_directory image) ≡ false → IsContentOf b image (λ _. sections) mode id r → IsResourceRange (options_of mode) b (resource_directory image) id sections image.file_alignment r
 content_range b image sections mode id r there h = subst (λ (t : Bool). IsContentBy t (options_of mode) b image (λ _. sections) id r) there h
@@ -29,32 +21,21 @@ content_range b image sections mode id r there h = subst (λ (t : Bool). IsConte
 goes_out : (b : List ℕ) (r : ByteRange) (out : Range) → IsWithin b r → out ≡ range_of r → IsRange b out (bytes_in b r)
 goes_out b r out h is = subst (λ (o : Range). IsRange b o (bytes_in b r)) (sym is) (record { inside = h; same = refl })
 
-reports : (b : List ℕ) (c : Option ByteRange) (m : Option (List ℕ)) (number : ℕ) (old new : Range) → IsThere b c m → HandsOutIf number old new (Ok (option_map range_of c)) → ReportsRange b number new m
-reports b None m number old new h k = subst (ReportsRange b number new) (sym h) k.0
-reports b (Some r) m number old new h k = subst (ReportsRange b number new) (sym h.1) (k.0, goes_out b r new h.0 k.1)
-
 pub manifest_reported : (b : List ℕ) (image : Image) (sections : List SectionTable) (mode : ℕ) (x : ResourceView) (number : ℕ) (old new : Range) → AreImageResources b image sections mode x → HandsOutManifest b image (λ _. sections) mode number old new → ReportsRange b number new x.manifest
 manifest_reported b image sections mode x number old new h k =
     let found = manifest_in (options_of mode) b (resource_directory image) sections image.file_alignment x k.0 h.1 (content_range b image sections mode 24 k.0 h.0 k.1) in
-    reports b found.0 x.manifest number old new found.2 (subst (λ (r : Result (Option ByteRange) Refusal). HandsOutIf number old new (r >>= λ c. Ok (option_map range_of c))) found.1 k.2)
+    grind (arith, goes_out, found.2, subst (λ (r : Result (Option ByteRange) Refusal). HandsOutIf number old new (r >>= λ c. Ok (option_map range_of c))) found.1 k.2)
 
 -- ---- version information
 
 no_version : (v : Option VersionView) (bytes : Option (List ℕ)) → bytes ≡ None → version_of_content bytes ≡ Ok v → v ≡ None
 no_version v bytes is h = sym (same_inside None v (subst (λ (o : Option (List ℕ)). version_of_content o ≡ Ok v) is h))
 
-reads_as : (q : Result VersionView Refusal) (v : Option VersionView) → (q >>= λ w. Ok (Some w)) ≡ Ok v → (w : VersionView) × (q ≡ Ok w) × (v ≡ Some w)
-reads_as (Ok w) v h = (w, refl, sym (same_inside (Some w) v h))
-reads_as (Err e) v h = absurd cc
-
 a_version : (c : List ℕ) (v : Option VersionView) (bytes : Option (List ℕ)) → bytes ≡ Some c → version_of_content bytes ≡ Ok v → (w : VersionView) × (version_in c ≡ Ok w) × (v ≡ Some w)
-a_version c v bytes is h = reads_as (version_in c) v (subst (λ (o : Option (List ℕ)). version_of_content o ≡ Ok v) is h)
+a_version c v bytes is h = grind (arith, same_inside)
 
 fixed_is : (b : List ℕ) (c : Option ByteRange) (bytes : Option (List ℕ)) (v : Option VersionView) → IsThere b c bytes → version_of_content bytes ≡ Ok v → fixed_at b c ≡ Ok (fixed_of v)
-fixed_is b None bytes v h k = ap (λ (o : Option VersionView). Ok (fixed_of o)) (sym (no_version v bytes h k))
-fixed_is b (Some r) bytes v h k =
-    let reads = a_version (bytes_in b r) v bytes h.1 k in
-    version_fixed (bytes_in b r) reads.0 reads.1 ∙ ap (λ (o : Option VersionView). Ok (fixed_of o)) (sym reads.2)
+fixed_is b c bytes v h k = grind (arith, no_version, a_version, version_fixed)
 
 pub fixed_reported : (b : List ℕ) (image : Image) (sections : List SectionTable) (mode : ℕ) (x : ResourceView) (number : ℕ) (old new : VsFixedFileInfo) → AreImageResources b image sections mode x → HandsOutFixed b image (λ _. sections) mode number old new → HandsOutIf number old new (Ok (fixed_of x.version))
 fixed_reported b image sections mode x number old new h k =
@@ -63,14 +44,10 @@ fixed_reported b image sections mode x number old new h k =
     (subst (λ (r : Result (Option ByteRange) Refusal). HandsOutIf number old new (r >>= fixed_at b)) found.2 k.2)
 
 there_inside : (b : List ℕ) (outer : ByteRange) (r : Option ByteRange) (m : Option (List ℕ)) (number : ℕ) (old new : Range) → IsWithin b outer → IsThere (bytes_in b outer) r m → HandsOutIf number old new (Ok (option_map (λ r. range_of (inner outer r)) r)) → ReportsRange b number new m
-there_inside b outer None m number old new within h k = subst (ReportsRange b number new) (sym h) k.0
-there_inside b outer (Some r) m number old new within h k =
-    let same = inner_bytes b outer r within h.0 in
-    subst (ReportsRange b number new) (ap (λ (c : List ℕ). Some c) same.1 ∙ sym h.1) (k.0, goes_out b (inner outer r) new same.0 k.1)
+there_inside b outer r m number old new within h k = grind (arith, inner_bytes, goes_out)
 
 value_is : (b : List ℕ) (name : VersionName) (c : Option ByteRange) (bytes : Option (List ℕ)) (v : Option VersionView) (number : ℕ) (old new : Range) → IsThere b c bytes → version_of_content bytes ≡ Ok v → HandsOutIf number old new (value_at b name c) → ReportsRange b number new (version_value name v)
-value_is b name None bytes v number old new h k answers =
-    subst (λ (o : Option VersionView). ReportsRange b number new (version_value name o)) (sym (no_version v bytes h k)) answers.0
+value_is b name None bytes v number old new h k answers = grind (arith, no_version)
 value_is b name (Some r) bytes v number old new h k answers =
     let reads = a_version (bytes_in b r) v bytes h.1 k in
     let found = version_named (bytes_in b r) reads.0 name reads.1 in

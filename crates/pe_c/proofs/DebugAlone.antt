@@ -1,30 +1,17 @@
 -- What is read of the first debug entry of a type depends on that entry and on the bytes of its record alone.
-use Rattle.std.proofs.Common.{◌≡◌, ℕ, ◌+◌, ◌-◌, ◌<◌, ◌≤◌, Bool, true, false, List, [], ◌∷◌, length, get_or, Option, Some, None, Result, Ok, Err, refl, ap, sym, subst, ◌∙◌, inl, inr, arith}
-use Rattle.std.proofs.lemmas.Bool.Decides.{nat_tests}
+use Rattle.std.proofs.Common.{◌≡◌, ℕ, ◌+◌, ◌-◌, ◌<◌, ◌≤◌, Bool, true, false, List, [], ◌∷◌, length, get_or, Option, Some, Result, Ok, refl, ap, sym, subst, ◌∙◌, inl, inr, arith}
+use Rattle.pe_c.proofs.Cited.{nat_tests, places, AllZip, find, option_map, ◌==◌, nat_le, nat_lt, if◌then◌else◌, holds, le, range}
+use Rattle.pe_c.proofs.Cited.{Refusal, BadMagic, DebugData, DebugSize, Short, outcome, ◌>>=◌, ParseMode, SectionTable}
+use Rattle.pe_c.proofs.Cited.{byte_of_range, directory_range, directory_table, whole_debug_entries, pdb70_at, pdb70_record}
+use Rattle.pe_c.proofs.Cited.{pdb20_at, pdb20_record, features_at, pogo_record, record_offset, repro_record, ImageDebugDirectory}
+use Rattle.pe_c.proofs.Cited.{characteristics_of, checksum_of, embedded_of, features_of, first_entry, flat_checksum, flat_embedded}
+use Rattle.pe_c.proofs.Cited.{flat_key, flat_pdb20, flat_pogo, flat_repro, key_of, pdb20_of, pogo_of, repro_of, ReadsItsBytes}
+use Rattle.pe_c.proofs.Cited.{SameBytes, SameOrOther, StandsAlone, by_kind, by_length, by_signature, by_size, debug_table}
+use Rattle.pe_c.proofs.Cited.{options_of, resolves, Image, not_below}
 use Rattle.std.proofs.lemmas.Grind.{same_number_lists}
-use Rattle.std.proofs.lemmas.List.{places}
-use Rattle.std.specs.List.{AllZip, find}
-use Rattle.std.specs.Option.{option_map}
-use Rattle.std.specs.Prelude.{◌==◌, nat_le, nat_lt, if◌then◌else◌}
-use Rattle.pe_core.specs.Bytes.{holds, le, range}
-use Rattle.pe_core.specs.Offsets.{bytes_in}
-use Rattle.pe_core.specs.Refusals.{Refusal, BadMagic, DebugData, DebugSize, Short, outcome, ◌>>=◌}
-use Rattle.pe_core.specs.SectionMap.{section_map}
-use Rattle.pe_core.specs.declared.byte_range.ByteRange.{ByteRange}
-use Rattle.pe_core.specs.declared.options.ParseMode.{ParseMode}
-use Rattle.pe_core.specs.declared.section_table.SectionTable.{SectionTable}
 use Rattle.pe_core.proofs.NumberBytes as numbers
-use Rattle.pe_core.proofs.Ranges.{byte_of_range}
-use Rattle.pe_records.specs.DebugDirectory.{directory_range, directory_table, first_of_type, range_at, whole_debug_entries}
-use Rattle.pe_records.specs.DebugRecords.{pdb70_at, pdb70_record, pdb20_at, pdb20_record, features_at, pogo_record, record_offset, repro_record}
 use Rattle.pe_records.specs.DebugRecords as records
 use Rattle.pe_records.specs.ManagedDebug.{Embedded, checksum_record, embedded_record}
-use Rattle.pe_records.specs.declared.debug.ImageDebugDirectory.{ImageDebugDirectory}
-use Rattle.calls_headers.specs.Debug.{characteristics_of, checksum_of, embedded_of, features_of, first_entry, flat_checksum, flat_embedded, flat_key, flat_pdb20, flat_pogo, flat_repro, key_of, pdb20_of, pogo_of, repro_of}
-use Rattle.pe_c.specs.DebugLaws.{ReadsItsBytes, SameBytes, SameOrOther, StandsAlone, by_kind, by_length, by_signature, by_size, debug_table}
-use Rattle.calls_base.specs.Images.{debug_directory, is_absent}
-use Rattle.calls_base.specs.Modes.{options_of, resolves}
-use Rattle.calls_base.specs.declared.image.Image.{Image}
 
 -- ---- parts of the same bytes
 
@@ -45,28 +32,17 @@ first : (b c : List ℕ) (p n m : ℕ) → SameBytes b c p n → m ≤ n → le 
 first b c p n m h i = numbers.le-same b c p p m (λ j lt. h j (omega arith))
 
 whole : (b c : List ℕ) (p n m : ℕ) → length b ≡ length c → SameBytes b c p n → m ≤ n → range b p m ≡ range c p m
-whole b c p n m e h i =
-    same_number_lists _ _ (grind (arith, places, e)) (λ j lt.
-    let below : j < m = grind (arith, places) in
-    let byte : get_or b (p + j) 0 ≡ get_or c (p + j) 0 = h j (omega arith) in
-    sym (byte_of_range b p m j below) ∙ byte ∙ byte_of_range c p m j below)
+whole b c p n m e h i = grind (arith, same_number_lists, places, byte_of_range)
 
 -- ---- each record
 
 unless : {X : Type 0} (short : Bool) (a x y : X) → (short ≡ false → x ≡ y) → (if short then a else x) ≡ (if short then a else y)
-unless true a x y h = refl
-unless false a x y h = h refl
-
-at_least : (n k : ℕ) → nat_lt n k ≡ false → k ≤ n
-at_least n k e = grind (arith, nat_tests)
-
-at_least_too : (n k : ℕ) → nat_le k n ≡ true → k ≤ n
-at_least_too n k e = grind (arith, nat_tests)
+unless short a x y h = grind arith
 
 pdb70 : (b c : List ℕ) (mode : ParseMode) (p size : ℕ) → length b ≡ length c → SameBytes b c p size → pdb70_record mode b p size ≡ pdb70_record mode c p size
 unfolding pdb70_record pdb70_at
 pdb70 b c mode p size e h = unless (nat_lt size 24) _ _ _ (λ enough.
-    let room : 24 ≤ size = at_least size 24 enough in
+    let room : 24 ≤ size = not_below size 24 enough in
     let magic = first b c p size 4 h (omega arith) in
     let guid = part b c p size 4 16 e h (omega arith) in
     let age = number b c p size 20 4 h (omega arith) in
@@ -76,28 +52,13 @@ pdb70 b c mode p size e h = unless (nat_lt size 24) _ _ _ (λ enough.
 pdb20 : (b c : List ℕ) (mode : ParseMode) (p size : ℕ) → length b ≡ length c → SameBytes b c p size → pdb20_record mode b p size ≡ pdb20_record mode c p size
 unfolding pdb20_record pdb20_at
 pdb20 b c mode p size e h = unless (nat_lt size 16) _ _ _ (λ enough.
-    let room : 16 ≤ size = at_least size 16 enough in
+    let room : 16 ≤ size = not_below size 16 enough in
     let magic = first b c p size 4 h (omega arith) in
     let offset = number b c p size 4 4 h (omega arith) in
     let signature = number b c p size 8 4 h (omega arith) in
     let age = number b c p size 12 4 h (omega arith) in
     let name = part b c p size 16 (size - 16) e h (omega arith) in
     rw e (rw magic (rw offset (rw signature (rw age (rw name refl))))))
-
-features : (b c : List ℕ) (p : ℕ) → length b ≡ length c → SameBytes b c p 20 → records.features_record b p ≡ records.features_record c p
-unfolding features_at
-features b c p e h =
-    let n0 = first b c p 20 4 h (omega arith) in
-    let n4 = number b c p 20 4 4 h (omega arith) in
-    let n8 = number b c p 20 8 4 h (omega arith) in
-    let n12 = number b c p 20 12 4 h (omega arith) in
-    let n16 = number b c p 20 16 4 h (omega arith) in
-    rw e (rw n0 (rw n4 (rw n8 (rw n12 (rw n16 refl)))))
-
-characteristics : (b c : List ℕ) (p : ℕ) → length b ≡ length c → SameBytes b c p 4 → records.characteristics_record b p ≡ records.characteristics_record c p
-characteristics b c p e h =
-    let flags = first b c p 4 4 h (omega arith) in
-    rw e (rw flags refl)
 
 repro : (b c : List ℕ) (p : ℕ) (entry : ImageDebugDirectory) → length b ≡ length c → SameBytes b c p (if entry.size_of_data == 0 then 0 else 4 + le b p 4) → repro_record b p entry ≡ repro_record c p entry
 unfolding repro_record
@@ -107,17 +68,9 @@ repro b c p entry e h = unless (entry.size_of_data == 0) _ _ _ (λ some.
     let hash = part b c p (4 + le b p 4) 4 (le b p 4) e all (omega arith) in
     rw (sym count) (rw hash (rw e refl)))
 
-pogo : (b c : List ℕ) (p size : ℕ) → length b ≡ length c → SameBytes b c p (4 + size) → pogo_record b p size ≡ pogo_record c p size
-unfolding pogo_record
-pogo b c p size e h =
-    let magic = first b c p (4 + size) 4 h (omega arith) in
-    let entries = part b c p (4 + size) 4 (size - 4) e h (omega arith) in
-    rw e (rw magic (rw entries refl))
-
 refused_unless : {X : Type 0} (test : Bool) (k : Refusal) (tests others : List (Bool × Refusal)) (x y : X) → (test ≡ true → outcome tests x ≡ outcome others y) →
     outcome ((test, k) ∷ tests) x ≡ outcome ((test, k) ∷ others) y
-refused_unless true k tests others x y h = h refl
-refused_unless false k tests others x y h = refl
+refused_unless test k tests others x y h = grind arith
 
 embedded : (b c : List ℕ) (p size : ℕ) → length b ≡ length c → SameBytes b c p size → embedded_record b p size ≡ embedded_record c p size
 unfolding embedded_record
@@ -127,17 +80,11 @@ embedded b c p size e h =
     refused_unless (nat_le 8 size) DebugSize
     ((holds b p 8, Short) ∷ (le b p 4 == 0x4244504D, BadMagic) ∷ (holds b (p + 8) (size - 8), DebugData) ∷ [])
     ((holds c p 8, Short) ∷ (le c p 4 == 0x4244504D, BadMagic) ∷ (holds c (p + 8) (size - 8), DebugData) ∷ []) v w (λ enough.
-    let room : 8 ≤ size = at_least_too size 8 enough in
+    let room : 8 ≤ size = grind (arith, nat_tests) in
     let magic = first b c p size 4 h (omega arith) in
     let count = number b c p size 4 4 h (omega arith) in
     let packed = part b c p size 8 (size - 8) e h (omega arith) in
     rw e (rw magic (rw count (rw packed refl))))
-
-checksum : (b c : List ℕ) (p size : ℕ) → length b ≡ length c → SameBytes b c p size → checksum_record b p size ≡ checksum_record c p size
-unfolding checksum_record
-checksum b c p size e h =
-    let all = whole b c p size size e h (omega arith) in
-    rw e (rw all refl)
 
 pub key_reads : ReadsItsBytes key_of by_size
 key_reads b c mode e lengths h = ap (λ r. r >>= λ x. Ok (option_map (flat_key mode e) x)) (pdb70 b c (options_of mode).parse_mode (record_offset (resolves mode) e) e.size_of_data lengths h)
@@ -146,22 +93,25 @@ pub pdb20_reads : ReadsItsBytes pdb20_of by_size
 pdb20_reads b c mode e lengths h = ap (λ r. r >>= λ x. Ok (option_map (flat_pdb20 mode e) x)) (pdb20 b c (options_of mode).parse_mode (record_offset (resolves mode) e) e.size_of_data lengths h)
 
 pub features_reads : ReadsItsBytes features_of (by_kind 20)
-features_reads b c mode e lengths h = ap (λ r. r >>= λ x. Ok (Some x)) (features b c (record_offset (resolves mode) e) lengths h)
+unfolding features_at
+features_reads b c mode e lengths h = ap (λ r. r >>= λ x. Ok (Some x)) (grind (arith, first, number))
 
 pub characteristics_reads : ReadsItsBytes characteristics_of (by_kind 4)
-characteristics_reads b c mode e lengths h = ap (λ r. r >>= λ x. Ok (Some x.characteristics_ex)) (characteristics b c (record_offset (resolves mode) e) lengths h)
+characteristics_reads = grind (arith, first)
 
 pub repro_reads : ReadsItsBytes repro_of by_length
 repro_reads b c mode e lengths h = ap (λ r. r >>= λ x. Ok (Some (flat_repro mode e x))) (repro b c (record_offset (resolves mode) e) e lengths h)
 
 pub pogo_reads : ReadsItsBytes pogo_of by_signature
-pogo_reads b c mode e lengths h = ap (λ r. r >>= λ x. Ok (option_map (flat_pogo mode e) x)) (pogo b c (record_offset (resolves mode) e) e.size_of_data lengths h)
+unfolding pogo_record
+pogo_reads b c mode e lengths h = ap (λ r. r >>= λ x. Ok (option_map (flat_pogo mode e) x)) (grind (arith, first, part))
 
 pub embedded_reads : ReadsItsBytes embedded_of by_size
 embedded_reads b c mode e lengths h = ap (λ r. r >>= λ x. Ok (Some (flat_embedded mode e x))) (embedded b c (record_offset (resolves mode) e) e.size_of_data lengths h)
 
 pub checksum_reads : ReadsItsBytes checksum_of by_size
-checksum_reads b c mode e lengths h = ap (λ r. r >>= λ x. Ok (Some (flat_checksum mode e x))) (checksum b c (record_offset (resolves mode) e) e.size_of_data lengths h)
+unfolding checksum_record
+checksum_reads b c mode e lengths h = ap (λ r. r >>= λ x. Ok (Some (flat_checksum mode e x))) (grind (arith, whole))
 
 -- ---- the first entry of a type
 
@@ -172,41 +122,20 @@ same_find kind (x ∷ xs) [] h = absurd h
 same_find kind (x ∷ xs) (y ∷ ys) (inl same, h) = let rest = same_find kind xs ys h in rw same (rw rest refl)
 same_find kind (x ∷ xs) (y ∷ ys) (inr others, h) = let rest = same_find kind xs ys h in rw others.0 (rw others.1 rest)
 
-same_range : (b c : List ℕ) (mode : ParseMode) (size : ℕ) (place : Option ℕ) → length b ≡ length c → range_at b mode size place ≡ range_at c mode size place
-same_range b c mode size None e = refl
-same_range b c mode size (Some offset) e = rw e refl
-
-first_by : (kind : ℕ) (b c : List ℕ) (r : Result ByteRange Refusal) →
-    ((t u : List ℕ) → (r >>= λ x. Ok (bytes_in b x)) ≡ Ok t → (r >>= λ x. Ok (bytes_in c x)) ≡ Ok u → AllZip (SameOrOther kind) (whole_debug_entries 0 t) (whole_debug_entries 0 u)) →
-    ((r >>= λ x. Ok (bytes_in b x)) >>= λ t. Ok (first_of_type 0 kind t)) ≡ ((r >>= λ x. Ok (bytes_in c x)) >>= λ t. Ok (first_of_type 0 kind t))
-first_by kind b c (Ok x) h = ap (λ o. Ok o) (same_find kind _ _ (h (bytes_in b x) (bytes_in c x) refl refl))
-first_by kind b c (Err k) h = refl
-
 same_first : (kind : ℕ) (b c : List ℕ) (image : Image) (s : List SectionTable) → length b ≡ length c →
     ((t u : List ℕ) → debug_table b image s ≡ Ok t → debug_table c image s ≡ Ok u → AllZip (SameOrOther kind) (whole_debug_entries 0 t) (whole_debug_entries 0 u)) →
     first_entry b image s kind ≡ first_entry c image s kind
 unfolding first_entry directory_table directory_range
-same_first kind b c image s e h =
-    let d = debug_directory image in
-    let o = options_of image.mode in
-    let place = section_map o s image.file_alignment d.virtual_address in
-    ap (λ r. if is_absent d then Ok None else r)
-    (subst (λ (r : Result ByteRange Refusal). ((t u : List ℕ) → (range_at b o.parse_mode d.size place >>= λ x. Ok (bytes_in b x)) ≡ Ok t → (r >>= λ x. Ok (bytes_in c x)) ≡ Ok u → AllZip (SameOrOther kind) (whole_debug_entries 0 t) (whole_debug_entries 0 u)) →
-    ((range_at b o.parse_mode d.size place >>= λ x. Ok (bytes_in b x)) >>= λ t. Ok (first_of_type 0 kind t)) ≡ ((r >>= λ x. Ok (bytes_in c x)) >>= λ t. Ok (first_of_type 0 kind t)))
-    (same_range b c o.parse_mode d.size place e) (first_by kind b c (range_at b o.parse_mode d.size place)) h)
+same_first kind b c image s e h = grind (arith, same_find)
 
 -- ---- both together
 
 alone_by : {Y : Type 0} (read other : ImageDebugDirectory → Result (Option Y) Refusal) (r : Result (Option ImageDebugDirectory) Refusal) →
     ((e : ImageDebugDirectory) → r ≡ Ok (Some e) → read e ≡ other e) → (r >>= records.of_entry read) ≡ (r >>= records.of_entry other)
-alone_by read other (Ok None) h = refl
-alone_by read other (Ok (Some e)) h = h e refl
-alone_by read other (Err k) h = refl
+alone_by read other r h = grind arith
 
 pub alone : {Y : Type 0} (kind : ℕ) (read : List ℕ → ℕ → ImageDebugDirectory → Result (Option Y) Refusal) (count : List ℕ → ℕ → ImageDebugDirectory → ℕ) → ReadsItsBytes read count → StandsAlone kind read count
-alone kind read count h b c image s d =
-    alone_by (read b image.mode) (read c image.mode) (first_entry b image s kind) (λ e is. h b c image.mode e d.lengths (d.bytes e is))
-    ∙ ap (λ r. r >>= records.of_entry (read c image.mode)) (same_first kind b c image s d.lengths d.entries)
+alone kind read count h = grind (arith, alone_by, same_first)
 
 pub key_alone : StandsAlone 2 key_of by_size
 key_alone = alone 2 key_of by_size key_reads

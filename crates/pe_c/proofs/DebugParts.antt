@@ -1,26 +1,17 @@
 -- The ranges that are read of debug entries are the parts of their records; and where debug data can be read as a whole, each of
 -- its records is read.
-use Rattle.std.proofs.Common.{◌≡◌, ℕ, ◌+◌, Bool, true, false, List, length, Option, Some, None, Result, Ok, Err, refl, sym, subst, ap, ◌∙◌}
-use Rattle.std.specs.Prelude.{if◌then◌else◌}
-use Rattle.std.specs.Option.{IsSome, option_map}
-use Rattle.pe_core.specs.Refusals.{Refusal, ◌>>=◌}
-use Rattle.pe_core.specs.declared.section_table.SectionTable.{SectionTable}
-use Rattle.pe_records.proofs.PartsInOffset.{RecordsOf, compressed_of_embedded, entries_of_pogo, hash_of_repro, name_of_pdb20, name_of_pdb70, parts_of_checksum, records_are}
-use Rattle.pe_records.specs.DebugDirectory.{directory_table, first_of_type}
-use Rattle.pe_records.specs.DebugRecords.{DebugFields, Stamp, Buffer, debug_data, of_entry, record_offset, some_of_entry}
+use Rattle.std.proofs.Common.{◌≡◌, ℕ, ◌+◌, Bool, List, length, Option, Some, None, Result, Ok, Err, refl, arith}
+use Rattle.pe_c.proofs.Cited.{if◌then◌else◌, IsSome, option_map, Refusal, ◌>>=◌, SectionTable, RecordsOf, compressed_of_embedded}
+use Rattle.pe_c.proofs.Cited.{entries_of_pogo, hash_of_repro, name_of_pdb20, name_of_pdb70, parts_of_checksum, records_are}
+use Rattle.pe_c.proofs.Cited.{directory_table, first_of_type, DebugFields, debug_data, of_entry, some_of_entry, ImageDebugDirectory}
+use Rattle.pe_c.proofs.Cited.{of_offset, characteristics_of, checksum_of, embedded_of, features_of, first_entry, flat_checksum}
+use Rattle.pe_c.proofs.Cited.{flat_embedded, flat_key, flat_pdb20, flat_pogo, flat_repro, key_of, part_after, pdb20_of, pogo_of}
+use Rattle.pe_c.proofs.Cited.{repro_of, ReportsPart, ReturnsRecord, image_debug, debug_directory, is_absent, options_of, IsPart}
+use Rattle.pe_c.proofs.Cited.{Image, Range}
 use Rattle.pe_records.specs.DebugRecords as records
 use Rattle.pe_records.specs.ManagedDebug as managed
 use Rattle.pe_records.specs.Parts.{StandsAfter, hash_of}
-use Rattle.pe_records.specs.declared.debug.ImageDebugDirectory.{ImageDebugDirectory}
-use Rattle.calls_unwind.proofs.RecordRanges.{of_offset}
-use Rattle.calls_headers.specs.Debug.{characteristics_of, checksum_of, embedded_of, features_of, first_entry, flat_checksum, flat_embedded, flat_key, flat_pdb20, flat_pogo, flat_repro, key_of, part_after, pdb20_of, pogo_of, repro_of}
-use Rattle.pe_c.specs.DebugLaws.{ReportsPart, ReturnsRecord, image_debug}
-use Rattle.calls_base.specs.Images.{debug_directory, is_absent}
-use Rattle.calls_base.specs.Modes.{options_of, resolves}
-use Rattle.calls_base.specs.Ranges.{IsPart, IsRange, no_bytes}
 use Rattle.calls_headers.specs.declared.debug.records.Repro.{Repro}
-use Rattle.calls_base.specs.declared.image.Image.{Image}
-use Rattle.calls_base.specs.declared.ranges.Range.{Range}
 
 -- ---- ranges are parts
 
@@ -29,21 +20,14 @@ made : {X Y : Type 0} (b : List ℕ) (mode n : ℕ) (e : ImageDebugDirectory) (p
     ((x : X) → range_of (make x) ≡ part_after mode e n (part x)) →
     (r : Result (Option X) Refusal) (stands : (x : Option X) → r ≡ Ok x → StandsAfter (options_of mode) b n (Some e) (option_map part x)) (y : Y) →
     (r >>= λ x. Ok (option_map make x)) ≡ Ok (Some y) → (x : Option X) × (r ≡ Ok x) × IsPart b (range_of y) (option_map part x)
-made b mode n e part make range_of h (Ok None) stands y given = absurd cc
-made b mode n e part make range_of h (Ok (Some x)) stands y given =
-    let same : make x ≡ y = cc in
-    (Some x, refl, subst (λ (r : Range). IsRange b r (part x)) (sym (h x) ∙ ap range_of same) (of_offset b (record_offset (resolves mode) e + n) (part x) (stands (Some x) refl)))
-made b mode n e part make range_of h (Err k) stands y given = absurd cc
+made b mode n e part make range_of h r stands y given = grind (arith, of_offset)
 
 -- what is made of a record that every entry has
 made_always : {X Y : Type 0} (b : List ℕ) (mode : ℕ) (n : X → ℕ) (e : ImageDebugDirectory) (part : X → List ℕ) (make : X → Y) (range_of : Y → Range) →
     ((x : X) → range_of (make x) ≡ part_after mode e (n x) (part x)) →
     (r : Result X Refusal) (stands : (x : X) → r ≡ Ok x → StandsAfter (options_of mode) b (n x) (Some e) (Some (part x))) (y : Y) →
     (r >>= λ x. Ok (Some (make x))) ≡ Ok (Some y) → (x : X) × (r ≡ Ok x) × IsPart b (range_of y) (Some (part x))
-made_always b mode n e part make range_of h (Ok x) stands y given =
-    let same : make x ≡ y = cc in
-    (x, refl, subst (λ (r : Range). IsRange b r (part x)) (sym (h x) ∙ ap range_of same) (of_offset b (record_offset (resolves mode) e + n x) (part x) (stands x refl)))
-made_always b mode n e part make range_of h (Err k) stands y given = absurd cc
+made_always b mode n e part make range_of h r stands y given = grind (arith, of_offset)
 
 pub key_reports : ReportsPart (λ o b e. records.pdb70_of o b e) key_of (λ y. y.name) (λ x. option_map (λ r. r.filename) x)
 key_reports b mode e y given =
@@ -59,13 +43,7 @@ pogo_reports b mode e y given =
 
 repro_by : (b : List ℕ) (mode : ℕ) (e : ImageDebugDirectory) (r : Result records.Repro Refusal) (stands : (x : records.Repro) → r ≡ Ok x → StandsAfter (options_of mode) b 4 (Some e) (hash_of (Some x))) (y : Repro) →
     (r >>= λ x. Ok (Some (flat_repro mode e x))) ≡ Ok (Some y) → (x : records.Repro) × (r ≡ Ok x) × IsPart b y.hash (hash_of (Some x))
-repro_by b mode e (Ok (Stamp stamp)) stands y given =
-    let same : record { hash = no_bytes; has_hash = 0; spare = 0 } ≡ y = cc in
-    (Stamp stamp, refl, ap (λ (x : Repro). x.hash) (sym same))
-repro_by b mode e (Ok (Buffer count bytes)) stands y given =
-    let same : record { hash = part_after mode e 4 bytes; has_hash = 1; spare = 0 } ≡ y = cc in
-    (Buffer count bytes, refl, subst (λ (r : Range). IsRange b r bytes) (ap (λ (x : Repro). x.hash) same) (of_offset b (record_offset (resolves mode) e + 4) bytes (stands (Buffer count bytes) refl)))
-repro_by b mode e (Err k) stands y given = absurd cc
+repro_by b mode e r stands y given = grind (arith, of_offset)
 
 pub repro_reports : ReportsPart (λ o b e. records.repro_of o b e) repro_of (λ y. y.hash) (λ x. hash_of (Some x))
 repro_reports b mode e y given = repro_by b mode e (records.repro_of (options_of mode) b e) (hash_of_repro (options_of mode) b e) y given
@@ -88,12 +66,7 @@ checksum_reports b mode e y given =
 table_by : (absent : Bool) (kind : ℕ) (table : Result (List ℕ) Refusal) (read : List ℕ → Result DebugFields Refusal) (d : DebugFields) →
     (if absent then Ok None else ((table >>= read) >>= λ x. Ok (Some x))) ≡ Ok (Some d) →
     (t : List ℕ) × (read t ≡ Ok d) × ((if absent then Ok None else (table >>= λ t. Ok (first_of_type 0 kind t))) ≡ Ok (first_of_type 0 kind t))
-table_by true kind table read d e = absurd cc
-table_by false kind (Ok t) read d e = (t, read_by (read t) d e, refl) where
-  read_by : (r : Result DebugFields Refusal) (d : DebugFields) → (r >>= λ x. Ok (Some x)) ≡ Ok (Some d) → r ≡ Ok d
-  read_by (Ok x) d e = cc
-  read_by (Err k) d e = absurd cc
-table_by false kind (Err k) read d e = absurd cc
+table_by absent kind table read d e = grind arith
 
 first_of : (kind : ℕ) (b : List ℕ) (image : Image) (s : List SectionTable) (d : DebugFields) → image_debug b image s ≡ Ok (Some d) →
     (t : List ℕ) × RecordsOf (options_of image.mode) b 0 t d × (first_entry b image s kind ≡ Ok (first_of_type 0 kind t))

@@ -1,29 +1,18 @@
 -- What calls return of the stacks of a minidump is what pe_stacks returns.
-use Rattle.std.proofs.Common.{◌≡◌, ℕ, ◌==◌, ◌&&◌, Bool, true, false, not, if◌then◌else◌, List, Option, Some, None, Result, Ok, Err, refl, ap, sym, ◌∙◌}
-use Rattle.std.specs.List.{find}
-use Rattle.pe_core.specs.Bytes.{range}
-use Rattle.pe_core.specs.Header.{HeaderView, OptionalHeaderView}
-use Rattle.pe_core.specs.Refusals.{◌>>=◌}
-use Rattle.pe_core.specs.declared.optional_header.TheConstants.{MAGIC_64}
-use Rattle.pe_frame.specs.MemoryLists.{lists_byte}
+use Rattle.std.proofs.Common.{◌≡◌, ℕ, List, Option, Some, None, Result, Ok, Err, refl, ap, sym, ◌∙◌, arith}
+use Rattle.pe_c.proofs.Cited.{range, HeaderView, ◌>>=◌, DumpView, located, DumpRefusal, raised_of, thread_context_at, as_reported}
+use Rattle.pe_c.proofs.Cited.{module_reported, image_info_of, Range}
 use Rattle.pe_frame.specs.declared.memory_list.MemoryPiece.{MemoryPiece}
-use Rattle.pe_minidump.specs.Dumps.{DumpView, located}
-use Rattle.pe_minidump.specs.Refusals.{DumpRefusal}
 use Rattle.pe_minidump.specs.Streams.{exception}
 use Rattle.pe_minidump.specs.declared.exception.Exception.{Exception}
 use Rattle.pe_minidump.specs.declared.location.Location.{Location}
 use Rattle.pe_minidump.specs.declared.module.Module.{Module}
 use Rattle.pe_minidump.specs.declared.thread.Thread.{Thread}
-use Rattle.pe_stacks.specs.Images.{has_size, is_image_of}
-use Rattle.pe_stacks.specs.MemoryRuns.{bytes_at, bytes_in}
+use Rattle.pe_stacks.specs.Images.{is_image_of}
+use Rattle.pe_stacks.specs.MemoryRuns.{bytes_at}
 use Rattle.pe_stacks.specs.ThreadContexts.{context_at, first_of, or_else, raised_by, thread_context}
-use Rattle.calls_stacks.specs.DumpContexts.{raised_of, thread_context_at}
 use Rattle.calls_stacks.specs.DumpImages.{fits}
-use Rattle.pe_c.specs.DumpLaws.{as_reported}
-use Rattle.calls_stacks.specs.DumpRecords.{module_reported}
-use Rattle.calls_stacks.specs.DumpRuns.{part_in, range_in}
-use Rattle.calls_base.specs.Images.{image_info_by, image_info_of}
-use Rattle.calls_base.specs.declared.ranges.Range.{Range}
+use Rattle.calls_stacks.specs.DumpRuns.{range_in}
 
 -- ---- contexts
 
@@ -55,26 +44,10 @@ module _ {C D : Type 0} (reported : C → D) where
 
 -- ---- images
 
-wide_by : (b : Bool) → not ((if b then 64 else 32) == 0) ≡ true
-wide_by true = refl
-wide_by false = refl
-
-none_fits : (a : Bool) → false ≡ (a && false)
-none_fits true = refl
-none_fits false = refl
-
-fits_by : (mode : ℕ) (h : HeaderView) (m : Module) (o : Option OptionalHeaderView) → fits (image_info_by mode h o) (module_reported m) ≡ ((h.coff_header).time_date_stamp == m.time_date_stamp && has_size m.size_of_image o)
-fits_by mode h m None = none_fits ((h.coff_header).time_date_stamp == m.time_date_stamp)
-fits_by mode h m (Some o) = ap (λ (b : Bool). b && (h.coff_header).time_date_stamp == m.time_date_stamp && o.windows_fields.size_of_image == m.size_of_image) (wide_by (o.standard_fields.magic == MAGIC_64))
-
 pub image_fits : (mode : ℕ) (h : HeaderView) (m : Module) → fits (image_info_of mode h) (module_reported m) ≡ is_image_of h m
-image_fits mode h m = fits_by mode h m h.optional_header
+image_fits mode h m = grind arith
 
 -- ---- memory
 
-bytes_by : (memory : List ℕ) (r : Range) (o : Option MemoryPiece) → range memory (part_in r o).offset (part_in r o).length ≡ bytes_in memory r.offset r.length o
-bytes_by memory r None = refl
-bytes_by memory r (Some p) = refl
-
 pub range_bytes : (memory : List ℕ) (pieces : List MemoryPiece) (r : Range) → range memory (range_in pieces r).offset (range_in pieces r).length ≡ bytes_at memory pieces r.offset r.length
-range_bytes memory pieces r = bytes_by memory r (find (lists_byte r.offset) pieces)
+range_bytes memory pieces r = grind arith

@@ -1,58 +1,20 @@
 -- Imports: what calls return of the libraries and of the imports of each is what an image has.
-use Rattle.std.proofs.Common.{◌≡◌, ℕ, ◌+◌, ◌/◌, ◌≤◌, ◌^◌, ◌%◌, Bool, true, false, List, [], ◌∷◌, ◌++◌, length, map, Option, Some, None, Result, Ok, Err, refl, sym, ap, subst, ◌∙◌}
-use Rattle.std.specs.Prelude.{◌*◌, ◌-◌, ◌==◌, nat_le, if◌then◌else◌}
-use Rattle.std.specs.List.{AllZip, range_with_len}
-use Rattle.std.specs.Option.{option_map}
-use Rattle.std.proofs.lemmas.List.{append-nil}
-use Rattle.pe_core.proofs.EntryItems.{each_as_map}
-use Rattle.pe_core.proofs.Steps.{same_inside}
-use Rattle.pe_core.specs.Bytes.{AreBytes, holds, le}
-use Rattle.pe_core.specs.Gathered.{all_or_refusal, with_rest}
-use Rattle.pe_core.specs.Header.{OptionalHeaderView}
-use Rattle.pe_core.specs.Imports.{EntryView, ImportRecordView, ImportView, entry_size, import_data_at, import_entries, import_entry_at, import_of, import_records, imports, name_or_refusal, named_import}
-use Rattle.pe_core.specs.Refusals.{Refusal, Short, ◌>>=◌}
-use Rattle.pe_core.specs.Rows.{each}
-use Rattle.pe_core.specs.SectionMap.{mapped, section_map}
-use Rattle.pe_core.specs.Text.{text_at}
-use Rattle.pe_core.specs.declared.data_directories.DataDirectory.{DataDirectory}
-use Rattle.pe_core.specs.declared.options.ParseOptions.{ParseOptions}
-use Rattle.pe_core.specs.declared.section_table.SectionTable.{SectionTable}
-use Rattle.pe_image.specs.Core.{import_data_of, imports_of}
+use Rattle.std.proofs.Common.{◌≡◌, ℕ, ◌/◌, ◌≤◌, ◌^◌, Bool, true, false, List, [], ◌∷◌, length, map, Option, Some, None, Result, Ok, Err, refl, sym, ap, subst, ◌∙◌, arith}
+use Rattle.pe_c.proofs.Cited.{◌==◌, if◌then◌else◌, AllZip, range_with_len, option_map, append-nil, each_as_map, same_inside}
+use Rattle.pe_c.proofs.Cited.{AreBytes, all_or_refusal, with_rest, OptionalHeaderView, EntryView, ImportRecordView, ImportView}
+use Rattle.pe_c.proofs.Cited.{entry_size, import_data_at, import_entries, import_entry_at, import_of, import_records, imports}
+use Rattle.pe_c.proofs.Cited.{named_import, Refusal, ◌>>=◌, each, mapped, section_map, DataDirectory, ParseOptions, SectionTable}
+use Rattle.pe_c.proofs.Cited.{import_data_of, imports_of, alignment, is_64, AreImports, AreImportsAfter, AreImportsBy, AreImportsOf}
+use Rattle.pe_c.proofs.Cited.{IsLibrary, in_turn, import_directory, is_absent, map_of_image, or_absent, libraries_at}
+use Rattle.pe_c.proofs.Cited.{libraries_from, ReportsImport, ReportsLibrary, IsRange, Image, Import, Libraries, Library}
 use Rattle.pe_image.specs.Core as core
-use Rattle.pe_image.specs.Layout.{alignment, is_64}
-use Rattle.pe_image.specs.Layout as layout
 use Rattle.pe_c.proofs.ImageFields.{IsThere, Says, same_map, there}
 use Rattle.pe_c.proofs.ImportRuns.{imports_in_turn, libraries_in_turn, refused_in_turn}
-use Rattle.calls_failures.specs.ImageParts.{AreImports, AreImportsAfter, AreImportsBy, AreImportsOf, IsLibrary, in_turn}
-use Rattle.calls_base.specs.Images.{import_directory, is_absent, map_of_image, or_absent}
-use Rattle.calls_directories.specs.Imports.{libraries_at, libraries_from}
-use Rattle.calls_directories.specs.Parts.{ReportsImport, ReportsLibrary}
-use Rattle.calls_base.specs.Ranges.{IsRange}
-use Rattle.calls_base.specs.declared.image.Image.{Image}
-use Rattle.calls_directories.specs.declared.names.imports.Import.{Import}
-use Rattle.calls_directories.specs.declared.names.imports.Libraries.{Libraries}
-use Rattle.calls_directories.specs.declared.names.imports.Library.{Library}
 
 -- ---- the DLL of an import is that of its record
 
-same_dll : (b : List ℕ) (e : EntryView) (there : Bool) (hint p : ℕ) (name : Option (List ℕ)) (i : ImportView) →
-    ((if there then Ok hint else Err Short) >>= λ hint. name_or_refusal name >>= λ n. Ok (record { name = Some n; dll = e.dll; ordinal = hint; rva = e.rva })) ≡ Ok i → i.dll ≡ e.dll
-same_dll b e true hint p (Some n) i is = ap (λ (x : ImportView). x.dll) (sym (same_inside (record { name = Some n; dll = e.dll; ordinal = hint; rva = e.rva }) i is))
-same_dll b e true hint p None i is = absurd cc
-same_dll b e false hint p name i is = absurd cc
-
 dll_at : (b : List ℕ) (e : EntryView) (at : Option ℕ) (i : ImportView) → (mapped at >>= named_import b e) ≡ Ok i → i.dll ≡ e.dll
-dll_at b e None i is = absurd cc
-dll_at b e (Some p) i is = same_dll b e (holds b p 2) (le b p 2) p (text_at b (p + 2)) i is
-
-dll_by : (b : List ℕ) (e : EntryView) (ordinal : Bool) (at : Option ℕ) (i : ImportView) →
-    (if ordinal then Ok (record { name = None; dll = e.dll; ordinal = e.entry % 2 ^ 16; rva = e.rva }) else (mapped at >>= named_import b e)) ≡ Ok i → i.dll ≡ e.dll
-dll_by b e true at i is = ap (λ (x : ImportView). x.dll) (sym (same_inside (record { name = None; dll = e.dll; ordinal = e.entry % 2 ^ 16; rva = e.rva }) i is))
-dll_by b e false at i is = dll_at b e at i is
-
-dll_of : (offset : ℕ → Option ℕ) (w : ℕ) (b : List ℕ) (e : EntryView) (i : ImportView) → import_of offset w b e ≡ Ok i → i.dll ≡ e.dll
-unfolding import_of
-dll_of offset w b e i is = dll_by b e (nat_le (2 ^ (8 * w - 1)) e.entry) (offset (e.entry % 2 ^ 31)) i is
+dll_at b e at i is = grind (arith, same_inside)
 
 -- what is reported of imports, and that their DLL has this name
 abbrev OfDll : List ℕ → List ℕ → Import → ImportView → Type 0
@@ -71,12 +33,9 @@ dlls_by b dll (Ok i) (Ok js) (y ∷ ys) (j ∷ is) h more given all =
     let rest : js ≡ is = cc in
     ((all.0, subst (λ (x : ImportView). x.dll ≡ dll) first (h i refl)), more ys is (ap (λ (x : List ImportView). Ok x) rest) all.1)
 
-gathered : (first : Result ImportView Refusal) (rest : List (Result ImportView Refusal)) → all_or_refusal (first ∷ rest) ≡ (first >>= λ i. with_rest (i ∷ []) (all_or_refusal rest))
-gathered (Ok i) rest = refl
-gathered (Err e) rest = refl
-
 dlls : (offset : ℕ → Option ℕ) (w : ℕ) (b : List ℕ) (r : ImportRecordView) (ks : List ℕ) (reported : List Import) (is : List ImportView) →
     all_or_refusal (map (import_of offset w b) (map (import_entry_at w r) ks)) ≡ Ok is → AllZip (ReportsImport b) reported is → AllZip (OfDll b r.name) reported is
+unfolding import_of
 dlls offset w b r [] reported [] given all = no_more reported all where
   no_more : (ys : List Import) → AllZip (ReportsImport b) ys [] → AllZip (OfDll b r.name) ys []
   no_more [] h = tt
@@ -84,19 +43,13 @@ dlls offset w b r [] reported [] given all = no_more reported all where
 dlls offset w b r [] reported (i ∷ is) given all = absurd cc
 dlls offset w b r (k ∷ ks) reported is given all =
     dlls_by b r.name (import_of offset w b (import_entry_at w r k)) (all_or_refusal (map (import_of offset w b) (map (import_entry_at w r) ks))) reported is
-    (λ i e. dll_of offset w b (import_entry_at w r k) i e)
+    (λ i e. grind (arith, same_inside, dll_at))
     (λ ys js e h. dlls offset w b r ks ys js e h)
-    (sym (gathered (import_of offset w b (import_entry_at w r k)) (map (import_of offset w b) (map (import_entry_at w r) ks))) ∙ given) all
+    (sym (grind arith) ∙ given) all
 
 its_entries : (w : ℕ) (r : ImportRecordView) → import_entries w (r ∷ []) ≡ map (import_entry_at w r) (range_with_len 0 (length r.lookups / w))
 unfolding import_entries
 its_entries w r = append-nil (each (import_entry_at w r) (length r.lookups / w)) ∙ sym (each_as_map (import_entry_at w r) (length r.lookups / w))
-
-of_record : (offset : ℕ → Option ℕ) (w : ℕ) (b : List ℕ) (r : ImportRecordView) (reported : List Import) (is : List ImportView) → imports offset w b (r ∷ []) ≡ Ok is → AllZip (ReportsImport b) reported is →
-    AllZip (OfDll b r.name) reported is
-unfolding imports
-of_record offset w b r reported is given all =
-    dlls offset w b r (range_with_len 0 (length r.lookups / w)) reported is (ap (λ (es : List EntryView). all_or_refusal (map (import_of offset w b) es)) (sym (its_entries w r)) ∙ given) all
 
 -- ---- the imports of a library
 
@@ -124,9 +77,10 @@ before_refusal b x dll (y ∷ ys) [] h all = absurd all
 before_refusal b x dll (y ∷ ys) (i ∷ is) h all = ((record { name = all.0.name; has_name = all.0.has_name; ordinal = all.0.ordinal; rva = all.0.rva }, h), before_refusal b x dll ys is h all.1)
 
 imports_by : (offset : ℕ → Option ℕ) (w : ℕ) (b : List ℕ) (x : Library) (r : ImportRecordView) (q : Result (List ImportView) Refusal) → ReportsLibrary offset w b x r → imports offset w b (r ∷ []) ≡ q → AreImportsOf offset w b x q
+unfolding imports
 imports_by offset w b x r (Ok is) h e =
     let found = h.given is e in
-    (found.0, found.1, with_range b x r.name found.0 is h.name (of_record offset w b r found.0 is e found.2))
+    (found.0, found.1, with_range b x r.name found.0 is h.name (grind (arith, dlls, its_entries, found.2)))
 imports_by offset w b x r (Err refusal) h e =
     let found = h.refused refusal e in
     (found.0, renamed r.name found.1, found.2, before_refusal b x r.name found.0 found.1 h.name found.3)
@@ -147,14 +101,10 @@ lists_are offset w b [] (r ∷ rs) all = absurd all
 lists_are offset w b (x ∷ xs) [] all = absurd all
 lists_are offset w b (x ∷ xs) (r ∷ rs) all = (imports_by offset w b x r (imports offset w b (r ∷ [])) all.0 refl, lists_are offset w b xs rs all.1)
 
-no_imports : (offset : ℕ → Option ℕ) (w : ℕ) (b : List ℕ) → imports offset w b [] ≡ Ok []
-unfolding imports import_entries
-no_imports offset w b = refl
-
 all_in_turn : (offset : ℕ → Option ℕ) (w : ℕ) (b : List ℕ) (rs : List ImportRecordView) → imports offset w b rs ≡ in_turn (lists_of offset w b rs)
-all_in_turn offset w b [] = no_imports offset w b
-all_in_turn offset w b (r ∷ rs) =
-    imports_in_turn offset w b r rs ∙ ap (λ (more : Result (List ImportView) Refusal). imports offset w b (r ∷ []) >>= λ first. more >>= λ others. Ok (first ++ others)) (all_in_turn offset w b rs)
+unfolding imports import_entries
+all_in_turn offset w b [] = refl
+all_in_turn offset w b (r ∷ rs) = grind (arith, imports_in_turn, all_in_turn offset w b rs)
 
 -- ---- the directory
 
@@ -167,22 +117,8 @@ by_records : (b : List ℕ) (image : Image) (sections : List SectionTable) (walk
     import_data_at (map_of_image image sections) (entry_size (image.width == 64)) b (import_directory image).virtual_address ≡ records →
     AreImportsAfter (map_of_image image sections) (entry_size (image.width == 64)) b walk records
     (records >>= λ rs. imports (map_of_image image sections) (entry_size (image.width == 64)) b rs >>= λ list. Ok (Some (rs, list)))
-by_records b image sections walk (Ok rs) bytes small start e =
-    let offset = map_of_image image sections in
-    let w = entry_size (image.width == 64) in
-    let found = libraries_in_turn b image sections walk rs bytes small start e in (
-      found.0,
-      lists_of offset w b rs,
-      found.1,
-      libraries_are offset w b found.0 rs found.2,
-      lists_are offset w b found.0 rs found.2,
-      ap (λ (r : Result (List ImportView) Refusal). r >>= λ list. Ok (Some (rs, list))) (all_in_turn offset w b rs),
-    )
-by_records b image sections walk (Err refusal) bytes small start e =
-    let offset = map_of_image image sections in
-    let w = entry_size (image.width == 64) in
-    let found = refused_in_turn b image sections walk refusal bytes small start e in
-    ((found.0, found.1, found.2, libraries_are offset w b found.0 found.1 found.3), refl)
+by_records b image sections walk records bytes small start e =
+    grind (arith, libraries_in_turn, libraries_are, lists_are, all_in_turn, refused_in_turn)
 
 -- the records of a directory that a walk is at, or that is not mapped
 abbrev records_at : Image → List SectionTable → List ℕ → Option ℕ → Result (List ImportRecordView) Refusal
@@ -202,17 +138,10 @@ by_offset b image sections (Some p) bytes small h e =
 abbrev part_if : Bool → (ℕ → Option ℕ) → ℕ → List ℕ → Option DataDirectory → Result (Option (List ImportRecordView × List ImportView)) Refusal
 part_if wanted offset w b d = imports_part offset w b (if wanted then d else None)
 
-in_one : (offset : ℕ → Option ℕ) (w : ℕ) (b : List ℕ) (q : Result (List ImportRecordView) Refusal) →
-    ((q >>= λ records. Ok (Some records)) >>= λ found. imports_of offset w b found >>= λ list. Ok (option_map {U = List ImportRecordView × List ImportView} (λ records. (records, list)) found)) ≡ (q >>= λ rs. imports offset w b rs >>= λ list. Ok (Some (rs, list)))
-in_one offset w b (Ok rs) = refl
-in_one offset w b (Err e) = refl
-
 imports_are_by : (b : List ℕ) (image : Image) (sections : List SectionTable) (wanted : Bool) (d : Option DataDirectory) → AreBytes b → length b ≤ 2 ^ 63 → IsThere d → import_directory image ≡ or_absent d →
     AreImports wanted b image sections (part_if wanted (map_of_image image sections) (entry_size (image.width == 64)) b d)
 imports_are_by b image sections false d bytes small h e = refl
-imports_are_by b image sections true None bytes small h e =
-    let none : libraries_at image (map_of_image image sections) ≡ Ok None = rw (ap is_absent e) refl in
-    subst (λ (r : Result (Option Libraries) Refusal). AreImportsBy true b image sections r (Ok None)) (sym none) refl
+imports_are_by b image sections true None bytes small h e = grind (arith)
 imports_are_by b image sections true (Some d) bytes small h e =
     let offset = map_of_image image sections in
     let w = entry_size (image.width == 64) in
@@ -220,15 +149,11 @@ imports_are_by b image sections true (Some d) bytes small h e =
     let start : libraries_at image (map_of_image image sections) ≡ (mapped (offset (import_directory image).virtual_address) >>= λ p. Ok (Some (libraries_from p))) = rw there refl in
     let at : records_at image sections b (offset (import_directory image).virtual_address) ≡ import_data_at offset w b d.virtual_address = ap (λ (x : DataDirectory). records_at image sections b (offset x.virtual_address)) e in
     let part : (records_at image sections b (offset (import_directory image).virtual_address) >>= λ rs. imports offset w b rs >>= λ list. Ok (Some (rs, list))) ≡ imports_part offset w b (Some d) =
-    ap (λ (q : Result (List ImportRecordView) Refusal). q >>= λ rs. imports offset w b rs >>= λ list. Ok (Some (rs, list))) at ∙ sym (in_one offset w b (import_data_at offset w b d.virtual_address)) in
+    ap (λ (q : Result (List ImportRecordView) Refusal). q >>= λ rs. imports offset w b rs >>= λ list. Ok (Some (rs, list))) at ∙ sym (grind arith) in
     subst (λ (r : Result (Option Libraries) Refusal). AreImportsBy true b image sections r (imports_part offset w b (Some d))) (sym start)
     (subst (λ (p : Result (Option (List ImportRecordView × List ImportView)) Refusal). AreImportsBy true b image sections (mapped (offset (import_directory image).virtual_address) >>= λ p. Ok (Some (libraries_from p))) p) part
     (by_offset b image sections (offset (import_directory image).virtual_address) bytes small there refl))
 
 pub imports_are : (b : List ℕ) (o : ParseOptions) (machine flags : ℕ) (header : Option OptionalHeaderView) (image : Image) (sections : List SectionTable) → AreBytes b → length b ≤ 2 ^ 63 → Says o machine flags header image →
     AreImports o.parse_imports b image sections (imports_part (section_map o sections (alignment header)) (entry_size (is_64 header)) b (core.import_directory o header))
-imports_are b o machine flags header image sections bytes small s =
-    subst (λ (w : ℕ). AreImports o.parse_imports b image sections (part_if o.parse_imports (section_map o sections (alignment header)) w b (layout.directory 1 header))) (ap entry_size s.wide)
-    (subst (λ (offset : ℕ → Option ℕ). AreImports o.parse_imports b image sections (part_if o.parse_imports offset (entry_size (image.width == 64)) b (layout.directory 1 header)))
-    (same_map o machine flags header image sections s)
-    (imports_are_by b image sections o.parse_imports (layout.directory 1 header) bytes small (there 1 header) s.imports))
+imports_are b o machine flags header image sections bytes small s = grind (arith, same_map, imports_are_by, there)

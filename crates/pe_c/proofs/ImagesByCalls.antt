@@ -1,25 +1,15 @@
 -- An image is what the calls return of its parts, in the order and by the modes of `PE`.
-use Rattle.std.proofs.Common.{◌≡◌, ℕ, ◌≤◌, ◌^◌, List, [], length, Option, Some, None, Result, Ok, Err, refl, sym, ap, subst, ◌∙◌}
-use Rattle.std.specs.Prelude.{unwrap_or}
-use Rattle.std.specs.Option.{option_map}
-use Rattle.pe_core.specs.Bytes.{AreBytes}
-use Rattle.pe_core.specs.Header.{HeaderView, OptionalHeaderView, header_at}
-use Rattle.pe_core.specs.Imports.{ImportRecordView, ImportView, entry_size}
-use Rattle.pe_core.specs.Refusals.{Refusal, ◌>>=◌}
-use Rattle.pe_core.specs.SectionMap.{section_map}
-use Rattle.pe_core.specs.Sections.{sections_at, sections_of}
-use Rattle.pe_core.specs.declared.data_directories.DataDirectory.{DataDirectory}
-use Rattle.pe_core.specs.declared.options.ParseMode.{ParseMode}
-use Rattle.pe_core.specs.declared.options.ParseMode.TheVariants.{Strict, Permissive}
-use Rattle.pe_core.specs.declared.options.ParseOptions.{ParseOptions}
-use Rattle.pe_core.specs.declared.section_table.SectionTable.{SectionTable}
-use Rattle.pe_image.specs.Core.{CoreView, core_of, core_with, export_data_of, exports_of, import_data_of, imports_of}
+use Rattle.std.proofs.Common.{◌≡◌, ℕ, ◌≤◌, ◌^◌, List, [], length, Option, Some, None, Result, Ok, Err, refl, sym, ap, subst, ◌∙◌, arith}
+use Rattle.pe_c.proofs.Cited.{unwrap_or, option_map, AreBytes, HeaderView, header_at, ImportRecordView, ImportView, entry_size}
+use Rattle.pe_c.proofs.Cited.{Refusal, ◌>>=◌, section_map, DataDirectory, ParseMode, ParseOptions, SectionTable, CoreView, core_of}
+use Rattle.pe_c.proofs.Cited.{core_with, export_data_of, exports_of, Field, IsField, IsResourceField, certificate_field}
+use Rattle.pe_c.proofs.Cited.{debug_field, exception_field, given_value, relocation_field, resource_directory, ImageView}
+use Rattle.pe_c.proofs.Cited.{IsAfterCore, IsImage, before_resources, demanded, first_fields_demanded, with_fields, alignment}
+use Rattle.pe_c.proofs.Cited.{is_64, IsResource, ResourceView, headers_of, header_of, AreParts, IsImageOfCalls, IsImageWith, Parts}
+use Rattle.pe_c.proofs.Cited.{image_of_parts, mode_of, part_by_mode, image_info_of, Image}
 use Rattle.pe_image.specs.Core as core
-use Rattle.pe_image.specs.Fields.{Field, IsField, IsResourceField, certificate_field, debug_field, exception_field, given_value, relocation_field, resource_directory}
-use Rattle.pe_image.specs.Image.{ImageView, IsAfterCore, IsImage, before_resources, demanded, first_fields_demanded, with_fields}
-use Rattle.pe_image.specs.Layout.{alignment, is_64}
 use Rattle.pe_image.specs.Layout as layout
-use Rattle.pe_resource.specs.Resources.{IsResource, ResourceView}
+use Rattle.pe_c.proofs.ImageWriters.{sections_in}
 use Rattle.pe_c.proofs.ImageDebugData.{debug_data_are}
 use Rattle.pe_c.proofs.ImageDirectories.{certificates, exceptions, relocations}
 use Rattle.pe_c.proofs.ImageExports.{exports_are}
@@ -27,11 +17,6 @@ use Rattle.pe_c.proofs.ImageFields.{Says, part_of, same_mode, says}
 use Rattle.pe_c.proofs.ImageHeaders.{headers_are}
 use Rattle.pe_c.proofs.ImageImports.{imports_are, imports_part}
 use Rattle.pe_c.proofs.ImageResources.{resources_are}
-use Rattle.calls_headers.specs.Headers.{headers_of}
-use Rattle.pe_c.specs.HeadersRead.{header_of}
-use Rattle.pe_c.specs.ImageOfCalls.{AreParts, IsImageAfter, IsImageOfCalls, IsImageWith, Parts, image_of_parts, mode_of, part_by_mode}
-use Rattle.calls_base.specs.Images.{image_info_by, image_info_of}
-use Rattle.calls_base.specs.declared.image.Image.{Image}
 
 -- ---- the parts
 
@@ -86,56 +71,18 @@ with_list list records = (records, list)
 
 in_one : {X : Type 0} (records : List ImportRecordView) (list : Result (List ImportView) Refusal) (make : Option (List ImportRecordView) → List ImportView → X) →
     (list >>= λ is. Ok (make (Some records) is)) ≡ ((list >>= λ is. Ok (Some (with_list is records))) >>= λ i. Ok (make (option_map (λ x. x.0) i) (unwrap_or (option_map (λ x. x.1) i) [])))
-in_one records (Ok is) make = refl
-in_one records (Err e) make = refl
-
-in_part : {X : Type 0} (offset : ℕ → Option ℕ) (w : ℕ) (b : List ℕ) (found : Result (Option (List ImportRecordView)) Refusal) (make : Option (List ImportRecordView) → List ImportView → X) →
-    (found >>= λ d. imports_of offset w b d >>= λ is. Ok (make d is))
-    ≡ ((found >>= λ d. imports_of offset w b d >>= λ is. Ok (option_map (with_list is) d)) >>= λ i. Ok (make (option_map (λ x. x.0) i) (unwrap_or (option_map (λ x. x.1) i) [])))
-in_part offset w b (Err e) make = refl
-in_part offset w b (Ok None) make = refl
-in_part offset w b (Ok (Some records)) make = in_one records (imports_of offset w b (Some records)) make
-
-core_is : (b : List ℕ) (o : ParseOptions) (h : HeaderView) (sections : List SectionTable) (f : Field ResourceView) → core_with b o h sections ≡ ((parts_of b o h sections f).imports >>= λ i. Ok (core_by b o h sections i))
-unfolding core_with
-core_is b o h sections f =
-    in_part (map_by o h sections) (entry_size (is_64 h.optional_header)) b (import_data_of (map_by o h sections) (entry_size (is_64 h.optional_header)) b (core.import_directory o h.optional_header))
-    (λ d is. record {
-      header = h;
-      sections = sections;
-      export_data = export_data_of (map_by o h sections) b (layout.directory 0 h.optional_header);
-      exports = exports_of (map_by o h sections) b (export_data_of (map_by o h sections) b (layout.directory 0 h.optional_header));
-      import_data = d;
-      imports = is;
-    })
+in_one records list make = grind arith
 
 -- ---- by mode
 
 kept : {X Y : Type 0} (mode : ParseMode) (f : Field X) (k : Option X → Result Y Refusal) → (part_by_mode mode (part_of f) >>= k) ≡ (demanded mode f >>= λ u. k (given_value f))
-kept Strict None k = refl
-kept Strict (Some (Ok x)) k = refl
-kept Strict (Some (Err e)) k = refl
-kept Permissive None k = refl
-kept Permissive (Some (Ok x)) k = refl
-kept Permissive (Some (Err e)) k = refl
+kept mode f k = grind arith
 
 -- five fields in turn
 five : {A B C D E X : Type 0} (m : ParseMode) (a : Field A) (b : Field B) (c : Field C) (d : Field D) (e : Field E) (make : Option A → Option B → Option C → Option D → Option E → X) →
     (part_by_mode m (part_of a) >>= λ v. part_by_mode m (part_of b) >>= λ w. part_by_mode m (part_of c) >>= λ x. part_by_mode m (part_of d) >>= λ y. part_by_mode m (part_of e) >>= λ z. Ok (make v w x y z))
     ≡ ((demanded m a >>= λ u. demanded m b >>= λ u. demanded m c >>= λ u. demanded m d) >>= λ u. demanded m e >>= λ u. Ok (make (given_value a) (given_value b) (given_value c) (given_value d) (given_value e)))
-five {X = X} m a b c d e make =
-    let made : Result X Refusal = Ok (make (given_value a) (given_value b) (given_value c) (given_value d) (given_value e)) in
-    let of_e = kept m e (λ z. Ok (make (given_value a) (given_value b) (given_value c) (given_value d) z)) in
-    let of_d = kept m d (λ y. part_by_mode m (part_of e) >>= λ z. Ok (make (given_value a) (given_value b) (given_value c) y z)) ∙ ap (λ (r : Result X Refusal). demanded m d >>= λ u. r) of_e in
-    let of_c = kept m c (λ x. part_by_mode m (part_of d) >>= λ y. part_by_mode m (part_of e) >>= λ z. Ok (make (given_value a) (given_value b) x y z)) ∙ ap (λ (r : Result X Refusal). demanded m c >>= λ u. r) of_d in
-    let of_b = kept m b (λ w. part_by_mode m (part_of c) >>= λ x. part_by_mode m (part_of d) >>= λ y. part_by_mode m (part_of e) >>= λ z. Ok (make (given_value a) w x y z)) ∙ ap (λ (r : Result X Refusal). demanded m b >>= λ u. r) of_c in
-    let of_a = kept m a (λ v. part_by_mode m (part_of b) >>= λ w. part_by_mode m (part_of c) >>= λ x. part_by_mode m (part_of d) >>= λ y. part_by_mode m (part_of e) >>= λ z. Ok (make v w x y z)) ∙ ap (λ (r : Result X Refusal). demanded m a >>= λ u. r) of_b in
-    of_a ∙ sym (joined (demanded m a) (demanded m b) (demanded m c) (demanded m d) (demanded m e >>= λ u. made)) where
-      joined : {X : Type 0} (a b c d : Result (Unit {0}) Refusal) (r : Result X Refusal) → ((a >>= λ u. b >>= λ u. c >>= λ u. d) >>= λ u. r) ≡ (a >>= λ u. b >>= λ u. c >>= λ u. d >>= λ u. r)
-      joined (Ok a) (Ok b) (Ok c) d r = refl
-      joined (Ok a) (Ok b) (Err e) d r = refl
-      joined (Ok a) (Err e) c d r = refl
-      joined (Err e) b c d r = refl
+five m a b c d e make = grind (arith, kept, part_of)
 
 -- the image of the parts, where the core has these imports
 by_imports : (b : List ℕ) (o : ParseOptions) (h : HeaderView) (sections : List SectionTable) (f : Field ResourceView) (i : Result (Option (List ImportRecordView × List ImportView)) Refusal) →
@@ -186,11 +133,12 @@ after_core law b o h sections (Err e) r is =
 
 with_sections : SomeResource → (b : List ℕ) (o : ParseOptions) (h : HeaderView) (sections : List SectionTable) (r : Result ImageView Refusal) → AreBytes b → length b ≤ 2 ^ 63 → header_at b o.parse_mode ≡ Ok h →
     IsAfterCore b o (core_with b o h sections >>= λ c. first_fields_demanded b o c >>= λ u. Ok c) r → IsImageWith b o (image_info_of (mode_of o) h) (Ok sections) r
+unfolding core_with
 with_sections law b o h sections r bytes small e is =
     let imports = imports_part (map_by o h sections) (entry_size (is_64 h.optional_header)) b (core.import_directory o h.optional_header) in
     let after : After b o h sections imports r =
     after_core law b o h sections imports r
-    (subst (λ (q : Result CoreView Refusal). IsAfterCore b o (q >>= λ c. first_fields_demanded b o c >>= λ u. Ok c) r) (core_is b o h sections None) is) in
+    (subst (λ (q : Result CoreView Refusal). IsAfterCore b o (q >>= λ c. first_fields_demanded b o c >>= λ u. Ok c) r) (grind (arith, in_one)) is) in
     let headers = headers_are b o h bytes e in
     let whole : image_of_parts o.parse_mode (header_of b (headers_of h)) (image_info_of (mode_of o) h) sections (parts_of b o h sections after.0) ≡ image_of_parts o.parse_mode h (image_info_of (mode_of o) h) sections (parts_of b o h sections after.0) =
     ap (λ (x : HeaderView). image_of_parts o.parse_mode x (image_info_of (mode_of o) h) sections (parts_of b o h sections after.0)) headers.1 in
@@ -198,22 +146,8 @@ with_sections law b o h sections r bytes small e is =
 
 by_sections : SomeResource → (b : List ℕ) (o : ParseOptions) (h : HeaderView) (sections : Result (List SectionTable) Refusal) (r : Result ImageView Refusal) → AreBytes b → length b ≤ 2 ^ 63 → header_at b o.parse_mode ≡ Ok h →
     IsAfterCore b o ((sections >>= λ s. core_with b o h s) >>= λ c. first_fields_demanded b o c >>= λ u. Ok c) r → IsImageWith b o (image_info_of (mode_of o) h) sections r
-by_sections law b o h (Ok sections) r bytes small e is = with_sections law b o h sections r bytes small e is
-by_sections law b o h (Err refusal) r bytes small e is = is
-
-sections_are : (b : List ℕ) (mode : ℕ) (h : HeaderView) (optional : Option OptionalHeaderView) → sections_at b (image_info_by mode h optional).sections_offset (image_info_by mode h optional).number_of_sections ≡ sections_of b h
-sections_are b mode h None = refl
-sections_are b mode h (Some o) = refl
-
-by_header : SomeResource → (b : List ℕ) (o : ParseOptions) (found : Result HeaderView Refusal) (r : Result ImageView Refusal) → AreBytes b → length b ≤ 2 ^ 63 → header_at b o.parse_mode ≡ found →
-    IsAfterCore b o ((found >>= λ h. sections_of b h >>= λ s. core_with b o h s) >>= λ c. first_fields_demanded b o c >>= λ u. Ok c) r → IsImageAfter b o (found >>= λ h. Ok (image_info_of (mode_of o) h)) r
-by_header law b o (Err refusal) r bytes small e is = is
-by_header law b o (Ok h) r bytes small e is =
-    subst (λ (sections : Result (List SectionTable) Refusal). IsImageWith b o (image_info_of (mode_of o) h) sections r) (sym (sections_are b (mode_of o) h h.optional_header))
-    (by_sections law b o h (sections_of b h) r bytes small e is)
+by_sections law b o h sections r bytes small e is = grind (arith, with_sections)
 
 pub image_of_calls : SomeResource → (b : List ℕ) (o : ParseOptions) (r : Result ImageView Refusal) → AreBytes b → length b ≤ 2 ^ 63 → IsImage b o r → IsImageOfCalls b o r
 unfolding before_resources core_of
-image_of_calls law b o r bytes small is =
-    subst (λ (mode : ParseMode). IsImageAfter b o (header_at b mode >>= λ h. Ok (image_info_of (mode_of o) h)) r) (sym (same_mode o))
-    (by_header law b o (header_at b o.parse_mode) r bytes small refl is)
+image_of_calls law b o r bytes small is = grind (arith, same_mode, sections_in, by_sections)

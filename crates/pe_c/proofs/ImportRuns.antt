@@ -1,41 +1,22 @@
 -- The walks over libraries and their imports tell what the import directory lists.
-use Rattle.std.proofs.Common.{◌≡◌, ℕ, zero, suc, ◌+◌, ◌-◌, ◌*◌, ◌/◌, ◌%◌, ◌^◌, ◌<◌, ◌≤◌, ◌==◌, Bool, true, false, List, [], ◌∷◌, ◌++◌, map, length, Option, Some, None, Result, Ok, Err, refl, sym, ap, subst, ◌∙◌, arith}
-use Rattle.std.specs.Prelude.{nat_le, if◌then◌else◌}
-use Rattle.std.specs.List.{AllZip}
-use Rattle.std.specs.Option.{option_map}
-use Rattle.std.proofs.lemmas.Bool.Decides.{nat_tests}
-use Rattle.std.proofs.lemmas.List.{append-nil, map-append}
+use Rattle.std.proofs.Common.{◌≡◌, ℕ, zero, suc, ◌+◌, ◌-◌, ◌*◌, ◌/◌, ◌%◌, ◌^◌, ◌<◌, ◌≤◌, ◌==◌, Bool, List, [], ◌∷◌, ◌++◌, map, length, Option, Some, None, Result, Ok, Err, refl, sym, ap, subst, ◌∙◌, arith}
+use Rattle.pe_c.proofs.Cited.{if◌then◌else◌, AllZip, option_map, nat_tests, append-nil, map-append, le_small, length_range}
+use Rattle.pe_c.proofs.Cited.{each_front, each_same, none_of_none, AreBytes, holds, le, range, record_at, all_or_refusal}
+use Rattle.pe_c.proofs.Cited.{up_to_none, with_rest, EntryView, ImportRecordView, ImportView, import_entries, import_entry_at}
+use Rattle.pe_c.proofs.Cited.{entry_size, import_data_at, import_of, import_record, import_record_at, import_records, imports}
+use Rattle.pe_c.proofs.Cited.{is_last, lookups_at, lookups_rva, name_or_refusal, named_import, import_entry, Refusal, Short, ◌>>=◌}
+use Rattle.pe_c.proofs.Cited.{each, mapped, text_at, SectionTable, Image, Import, Libraries, Library, Range, import_directory}
+use Rattle.pe_c.proofs.Cited.{map_of_image, import_at, import_by, import_step, import_reported, StepsImports, StepsLibraries}
+use Rattle.pe_c.proofs.Cited.{libraries_at, libraries_from, library_by, library_step, library_reported, no_imports, no_libraries}
+use Rattle.pe_c.proofs.Cited.{slot_entry, ImportsInTurn, ReportsImport, ReportsLibrary, IsRange, range_from, ReturnsItems, IsOver}
+use Rattle.pe_c.proofs.Cited.{ReturnsReported, given, same_inside}
 use Rattle.std.proofs.lemmas.Nat.{column_fits, div-mul-add}
 use Rattle.std.proofs.Math.Nat.{mul-suc}
-use Rattle.pe_core.proofs.NumberBytes.{le_small}
-use Rattle.pe_core.proofs.Ranges.{length_range}
 use Rattle.pe_core.proofs.Map.{offset_is}
-use Rattle.pe_core.proofs.EntryItems.{each_front, each_same, none_of_none}
-use Rattle.pe_core.specs.Bytes.{AreBytes, holds, le, range, record_at}
-use Rattle.pe_core.specs.Gathered.{all_or_refusal, up_to_none, with_rest}
-use Rattle.pe_core.specs.Imports.{EntryView, ImportRecordView, ImportView, import_entries, import_entry_at, entry_size, import_data_at, import_of, import_record, import_record_at, import_records, imports, is_last, lookup_entries, lookups_at, lookups_rva, name_or_refusal, named_import}
-use Rattle.pe_core.specs.Records.{import_entry}
-use Rattle.pe_core.specs.Refusals.{Refusal, Short, ◌>>=◌}
-use Rattle.pe_core.specs.Rows.{each}
-use Rattle.pe_core.specs.SectionMap.{mapped}
-use Rattle.pe_core.specs.Text.{text_at}
 use Rattle.pe_core.specs.declared.import.ImportDirectoryEntry.{ImportDirectoryEntry}
-use Rattle.pe_core.specs.declared.section_table.SectionTable.{SectionTable}
-use Rattle.calls_base.specs.declared.image.Image.{Image}
-use Rattle.calls_directories.specs.declared.names.imports.Import.{Import}
 use Rattle.calls_directories.specs.declared.names.imports.Imports.{Imports}
-use Rattle.calls_directories.specs.declared.names.imports.Libraries.{Libraries}
-use Rattle.calls_directories.specs.declared.names.imports.Library.{Library}
-use Rattle.calls_base.specs.declared.ranges.Range.{Range}
-use Rattle.calls_base.specs.Images.{import_directory, is_absent, map_of_image}
-use Rattle.calls_directories.specs.Imports.{import_at, import_by, import_left, import_step, import_reported, StepsImports, StepsLibraries, libraries_at, libraries_from, library_by, library_step, library_reported, no_imports, no_libraries, slot_entry}
-use Rattle.calls_directories.specs.Parts.{ImportsInTurn, ReportsImport, ReportsLibrary}
-use Rattle.calls_base.specs.Ranges.{IsRange, no_bytes, range_from}
-use Rattle.calls_base.specs.Runs.{ReturnsItems, IsOver, ReturnsReported}
-use Rattle.calls_base.specs.Walks.{left_entry}
 use Rattle.calls_base.proofs.Runs.{makes_by, reports_more, reports_none, reports_refused}
 use Rattle.calls_base.proofs.TextRanges.{text_stands}
-use Rattle.pe_core.proofs.Steps.{given, same_inside}
 use Rattle.pe_image.proofs.StandingLists.{held, le_of_range, list_inside, not_last, rows_front, some_inside}
 use Rattle.pe_core.proofs.EntryLists.{some_size}
 use Rattle.calls_directories.proofs.LastImports.{over, step_last}
@@ -49,55 +30,20 @@ Agrees b (Ok i) (Err e) = ⊥
 Agrees b (Err e) (Ok x) = ⊥
 Agrees b (Err e) (Err f) = e ≡ f
 
-agrees_by_name : (offset : ℕ → Option ℕ) (b dll : List ℕ) (entry rva p : ℕ) (name : Option (List ℕ)) → offset (entry % 2 ^ 31) ≡ Some p → text_at b (p + 2) ≡ name →
-    Agrees b (name_or_refusal name >>= λ n. Ok (record { name = Some n; dll = dll; ordinal = le b p 2; rva = rva }))
-    ((name_or_refusal name >>= λ n. Ok (record { name = Some n; dll = []; ordinal = le b p 2; rva = rva })) >>= λ i. Ok (import_reported offset entry i))
-agrees_by_name offset b dll entry rva p None at e = refl
-agrees_by_name offset b dll entry rva p (Some n) at e = record {
-  name = subst (λ (o : Option ℕ). IsRange b (range_from (length n) (option_map (λ q. q + 2) o)) n) (sym at) (text_stands b (p + 2) n e);
-  has_name = refl;
-  ordinal = refl;
-  rva = refl;
-}
-
-agrees_by_hint : (offset : ℕ → Option ℕ) (b dll : List ℕ) (entry rva p : ℕ) (there : Bool) → offset (entry % 2 ^ 31) ≡ Some p →
-    Agrees b
-    ((if there then Ok (le b p 2) else Err Short) >>= λ hint. name_or_refusal (text_at b (p + 2)) >>= λ n. Ok (record { name = Some n; dll = dll; ordinal = hint; rva = rva }))
-    (((if there then Ok (le b p 2) else Err Short) >>= λ hint. name_or_refusal (text_at b (p + 2)) >>= λ n. Ok (record { name = Some n; dll = []; ordinal = hint; rva = rva })) >>= λ i. Ok (import_reported offset entry i))
-agrees_by_hint offset b dll entry rva p true at = agrees_by_name offset b dll entry rva p (text_at b (p + 2)) at refl
-agrees_by_hint offset b dll entry rva p false at = refl
-
 agrees_by_offset : (offset : ℕ → Option ℕ) (b dll : List ℕ) (entry rva : ℕ) (at : Option ℕ) → offset (entry % 2 ^ 31) ≡ at →
     Agrees b (mapped at >>= named_import b (record { dll = dll; entry = entry; rva = rva })) ((mapped at >>= named_import b (slot_entry entry rva)) >>= λ i. Ok (import_reported offset entry i))
 agrees_by_offset offset b dll entry rva None at = refl
-agrees_by_offset offset b dll entry rva (Some p) at = agrees_by_hint offset b dll entry rva p (holds b p 2) at
-
-agrees_by_kind : (offset : ℕ → Option ℕ) (b dll : List ℕ) (entry rva : ℕ) (ordinal : Bool) →
-    Agrees b
-    (if ordinal then Ok (record { name = None; dll = dll; ordinal = entry % 2 ^ 16; rva = rva }) else (mapped (offset (entry % 2 ^ 31)) >>= named_import b (record { dll = dll; entry = entry; rva = rva })))
-    ((if ordinal then Ok (record { name = None; dll = []; ordinal = entry % 2 ^ 16; rva = rva }) else (mapped (offset (entry % 2 ^ 31)) >>= named_import b (slot_entry entry rva))) >>= λ i. Ok (import_reported offset entry i))
-agrees_by_kind offset b dll entry rva true = record { name = refl; has_name = refl; ordinal = refl; rva = refl }
-agrees_by_kind offset b dll entry rva false = agrees_by_offset offset b dll entry rva (offset (entry % 2 ^ 31)) refl
+agrees_by_offset offset b dll entry rva (Some p) at = grind (arith, text_stands)
 
 agrees : (offset : ℕ → Option ℕ) (w : ℕ) (b dll : List ℕ) (entry rva : ℕ) → Agrees b (import_of offset w b (record { dll = dll; entry = entry; rva = rva })) (import_at offset w b entry rva)
 unfolding import_of
-agrees offset w b dll entry rva = agrees_by_kind offset b dll entry rva (nat_le (2 ^ (8 * w - 1)) entry)
+agrees offset w b dll entry rva = grind (arith, agrees_by_offset)
 
 -- ---- the imports of a library
 
 -- the entries from q on
 abbrev slots : ℕ → List ℕ → List ℕ → ℕ → ℕ → ℕ → EntryView
 slots w b dll q rva k = record { dll = dll; entry = le b (q + w * k) w; rva = rva + w * k }
-
-entry_left : (w : ℕ) (b : List ℕ) (q m : ℕ) → 0 < w → w ≤ m → q + m ≤ length b → left_entry w b (record { offset = q; length = m }) ≡ Ok (Some (range b q m))
-entry_left w b q m some h i = grind (arith, nat_tests)
-
-step_first : (offset : ℕ → Option ℕ) (w : ℕ) (b : List ℕ) (q m rva : ℕ) → 0 < w → w ≤ m → q + m ≤ length b → import_step offset w b (over q m rva) ≡ import_by w (over q m rva) (import_at offset w b (le b q w) rva)
-unfolding import_step
-step_first offset w b q m rva some h i =
-    let at_start : q + 0 ≡ q = omega arith in
-    let entry : le (range b q m) 0 w ≡ le b q w = le_of_range b q m 0 w i (omega (arith, h)) ∙ ap (λ (k : ℕ). le b k w) at_start in
-    ap (import_left offset w b (over q m rva)) (entry_left w b q m some h i) ∙ ap (λ (e : ℕ). import_by w (over q m rva) (import_at offset w b e rva)) entry
 
 -- the first import and those after it
 one : (offset : ℕ → Option ℕ) (w : ℕ) (b : List ℕ) (walk next : Imports) (r : Result ImportView Refusal) (x : Result Import Refusal) (rest : List (Result ImportView Refusal)) →
@@ -112,25 +58,14 @@ one offset w b walk next (Err e) (Err f) rest agree is after more =
     (makes_by (import_step offset w b) (no_imports walk) (no_imports walk) (Ok None) (step_last offset w b 0 walk.rva (omega arith)))
 
 slots_front : (w : ℕ) (b dll : List ℕ) (q rva n : ℕ) → each (slots w b dll q rva) (suc n) ≡ record { dll = dll; entry = le b q w; rva = rva } ∷ each (slots w b dll (q + w) (rva + w)) n
-slots_front w b dll q rva n =
-    let first : q + w * 0 ≡ q = omega arith in
-    let slot : rva + w * 0 ≡ rva = omega arith in
-    each_front (slots w b dll q rva) (slots w b dll (q + w) (rva + w)) n
-    (λ k.
-    let offset : q + w * suc k ≡ q + w + w * k = omega (arith, mul-suc w k) in
-    let address : rva + w * suc k ≡ rva + w + w * k = omega (arith, mul-suc w k) in
-    rw (offset, address) refl)
-    ∙ ap (λ (p : ℕ). record { dll = dll; entry = le b p w; rva = rva + w * 0 } ∷ each (slots w b dll (q + w) (rva + w)) n) first
-    ∙ ap (λ (a : ℕ). record { dll = dll; entry = le b q w; rva = a } ∷ each (slots w b dll (q + w) (rva + w)) n) slot
+slots_front w b dll q rva n = grind (arith, each_front, mul-suc)
 
 next_walk : (w q rva n : ℕ) → rva + w * suc n < 2 ^ 64 → record { left = record { offset = q + w; length = w * suc n - w }; rva = (rva + w) % 2 ^ 64 } ≡ over (q + w) (w * n) (rva + w)
-next_walk w q rva n small =
-    let fewer : w * suc n - w ≡ w * n = omega (arith, mul-suc w n) in
-    let same : (rva + w) % 2 ^ 64 ≡ rva + w = omega (arith, mul-suc w n, small) in
-    rw (fewer, same) refl
+next_walk w q rva n small = grind (arith, mul-suc)
 
 run : (offset : ℕ → Option ℕ) (w : ℕ) (b dll : List ℕ) → 0 < w → (n q rva : ℕ) → q + w * n ≤ length b → rva + w * n < 2 ^ 64 →
     ReturnsReported (StepsImports offset w b) (ReportsImport b) (over q (w * n) rva) (all_or_refusal (map (import_of offset w b) (each (slots w b dll q rva) n)))
+unfolding import_step
 run offset w b dll some zero q rva inside small =
     let none : w * 0 ≡ 0 = omega arith in
     let here : import_step offset w b (over q (w * 0) rva) ≡ (Ok None, over q 0 rva) = ap (λ (m : ℕ). import_step offset w b (over q m rva)) none ∙ step_last offset w b q rva (omega (arith, inside)) in
@@ -142,7 +77,7 @@ run offset w b dll some (suc n) q rva inside small =
     subst (λ (es : List EntryView). ReturnsReported (StepsImports offset w b) (ReportsImport b) (over q (w * suc n) rva) (all_or_refusal (map (import_of offset w b) es))) (sym (slots_front w b dll q rva n))
     (one offset w b (over q (w * suc n) rva) (over (q + w) (w * n) (rva + w)) _ _ _
     (agrees offset w b dll (le b q w) rva)
-    (step_first offset w b q (w * suc n) rva some (omega (arith, long)) inside)
+    (grind (arith, le_of_range, over, nat_tests))
     (next_walk w q rva n small)
     (run offset w b dll some n (q + w) (rva + w) (omega (arith, long, inside)) (omega (arith, long, small))))
 
@@ -154,17 +89,6 @@ record ListStands (w : ℕ) (b : List ℕ) (r : Range) (list : List ℕ) : Type 
   long : r.length ≡ w * count
   within : r.offset + w * count ≤ length b
   same : range b r.offset (w * count) ≡ list
-
-list_stands : (w : ℕ) (b : List ℕ) (at : Option ℕ) (list : List ℕ) → lookups_at w b at ≡ Ok list → ListStands w b (range_from (length list) at) list
-list_stands w b None list e =
-    let none : [] ≡ list = same_inside [] list e in
-    let nothing : w * 0 ≡ 0 = omega arith in
-    subst (ListStands w b no_bytes) none (record { count = 0; long = omega arith; within = omega arith; same = rw nothing refl })
-list_stands w b (Some q) list e =
-    let list_entries = given (lookup_entries w b q) (λ es. Ok (range b q (w * length es))) list e in
-    let same : range b q (w * length list_entries.0) ≡ list = same_inside (range b q (w * length list_entries.0)) list list_entries.2 in
-    let within : q + w * length list_entries.0 ≤ length b = list_inside w b q list_entries.0 list_entries.1 in
-    record { count = length list_entries.0; long = ap length (sym same) ∙ length_range b q (w * length list_entries.0) within; within = within; same = same }
 
 is_range : (w : ℕ) (b : List ℕ) (r : Range) (list : List ℕ) → ListStands w b r list → IsRange b r list
 is_range w b r list s = record { inside = omega (arith, s.long, s.within); same = ap (λ (n : ℕ). range b r.offset n) s.long ∙ s.same }
@@ -195,15 +119,10 @@ record_imports offset w b r left some small s low =
 -- ---- a library
 
 pub there_by : {Y : Type 0} (here : Bool) (y z : Y) → if◌then◌else◌ {A = Result Y Refusal} here (Ok y) (Err Short) ≡ Ok z → z ≡ y
-there_by true y z e = sym (same_inside y z e)
-there_by false y z e = absurd cc
+there_by here y z e = grind (arith, same_inside)
 
 there_is : {Y : Type 0} (b : List ℕ) (p : ℕ) (y z : Y) → record_at b p 20 y ≡ Ok z → z ≡ y
 there_is b p y z e = there_by (holds b p 20) y z e
-
-name_is : (o : Option (List ℕ)) (name : List ℕ) → name_or_refusal o ≡ Ok name → o ≡ Some name
-name_is None name e = absurd cc
-name_is (Some n) name e = ap (λ (x : List ℕ). Some x) (same_inside n name e)
 
 low_address : (b : List ℕ) (p : ℕ) → AreBytes b → (import_entry b p).address_table_rva < 4294967296
 unfolding import_entry
@@ -218,10 +137,10 @@ entry_reports offset w b e r some small low h =
     let list = given (lookups_at w b (offset (lookups_rva e))) _ (Some r) name.2 in
     let made : ImportRecordView = record { import_directory_entry = e; name = name.0; lookups = list.0 } in
     let left : Range = range_from (length list.0) (offset (lookups_rva e)) in
-    let stands : ListStands w b left list.0 = list_stands w b (offset (lookups_rva e)) list.0 list.1 in
+    let stands : ListStands w b left list.0 = grind (arith, same_inside, given, list_inside, length_range, list.1) in
     let run : ReturnsReported (StepsImports offset w b) (ReportsImport b) (record { left = left; rva = e.address_table_rva }) (imports offset w b (made ∷ [])) = record_imports offset w b made left some small stands low in
     subst (λ (x : ImportRecordView). ReportsLibrary offset w b (library_reported offset x) x) (some_inside made r list.2) (record {
-      name = subst (λ (o : Option ℕ). IsRange b (range_from (length name.0) o) name.0) (sym (offset_is (offset e.name_rva) p.0 p.1)) (text_stands b p.0 name.0 (name_is (text_at b p.0) name.0 name.1));
+      name = subst (λ (o : Option ℕ). IsRange b (range_from (length name.0) o) name.0) (sym (offset_is (offset e.name_rva) p.0 p.1)) (text_stands b p.0 name.0 (grind (arith, same_inside, name.1)));
       list = is_range w b left list.0 stands;
       numbers = refl;
       given = λ is whole. subst (ReturnsReported (StepsImports offset w b) (ReportsImport b) (record { left = left; rva = e.address_table_rva })) whole run;
@@ -257,9 +176,7 @@ first_library : (offset : ℕ → Option ℕ) (w : ℕ) (b : List ℕ) (p : ℕ)
     ((r : ImportRecordView) → row ≡ Ok (Some r) → ReportsLibrary offset w b (library_reported offset r) r) →
     ReturnsReported (StepsLibraries offset w b) (ReportsLibrary offset w b) (libraries_from p) (up_to_none (row ∷ rows))
 unfolding library_step
-first_library offset w b p (Ok None) rows e more reports =
-    reports_none (StepsLibraries offset w b) (ReportsLibrary offset w b) (libraries_from p) no_libraries (makes_by (library_step offset w b) (libraries_from p) no_libraries (Ok None) (ap (library_of_row offset p) e))
-    (is_over offset w b)
+first_library offset w b p (Ok None) rows e more reports = grind (arith, reports_none, makes_by, is_over)
 first_library offset w b p (Ok (Some r)) rows e more reports =
     reports_more (StepsLibraries offset w b) (ReportsLibrary offset w b) (libraries_from p) (libraries_from (p + 20)) (library_reported offset r) r (up_to_none rows)
     (makes_by (library_step offset w b) (libraries_from p) (libraries_from (p + 20)) (Ok (Some (library_reported offset r))) (ap (library_of_row offset p) e)) (reports r refl) (more r refl)
@@ -285,59 +202,31 @@ directory_run : (offset : ℕ → Option ℕ) (w : ℕ) (b : List ℕ) (p : ℕ)
 unfolding import_records
 directory_run offset w b p some bytes small = libraries_run offset w b some bytes small (length b) p (omega arith)
 
-by_directory : (offset : ℕ → Option ℕ) (w : ℕ) (b : List ℕ) (walk : Libraries) (absent : Bool) (at : Option ℕ) → 0 < w → AreBytes b → length b ≤ 2 ^ 63 →
-    if◌then◌else◌ {A = Result (Option Libraries) Refusal} absent (Ok None) (mapped at >>= λ p. Ok (Some (libraries_from p))) ≡ Ok (Some walk) →
-    ReturnsReported (StepsLibraries offset w b) (ReportsLibrary offset w b) walk (mapped at >>= import_records offset w b)
-by_directory offset w b walk true at some bytes small e = absurd cc
-by_directory offset w b walk false None some bytes small e = absurd cc
-by_directory offset w b walk false (Some p) some bytes small e =
-    subst (λ (x : Libraries). ReturnsReported (StepsLibraries offset w b) (ReportsLibrary offset w b) x (import_records offset w b p)) (some_inside (libraries_from p) walk e) (directory_run offset w b p some bytes small)
-
 reported_of_image : (b : List ℕ) (image : Image) (sections : List SectionTable) (walk : Libraries) → AreBytes b → length b ≤ 2 ^ 63 → libraries_at image (map_of_image image sections) ≡ Ok (Some walk) →
     ReturnsReported (StepsLibraries (map_of_image image sections) (entry_size (image.width == 64)) b) (ReportsLibrary (map_of_image image sections) (entry_size (image.width == 64)) b) walk
     (import_data_at (map_of_image image sections) (entry_size (image.width == 64)) b (import_directory image).virtual_address)
-reported_of_image b image sections walk bytes small e =
-    by_directory (map_of_image image sections) (entry_size (image.width == 64)) b walk (is_absent (import_directory image)) (map_of_image image sections (import_directory image).virtual_address) (some_size (image.width == 64)) bytes small e
+reported_of_image b image sections walk bytes small e = grind (arith, some_size, some_inside, directory_run)
 
 pub libraries_in_turn : (b : List ℕ) (image : Image) (sections : List SectionTable) (walk : Libraries) (rs : List ImportRecordView) → AreBytes b → length b ≤ 2 ^ 63 → libraries_at image (map_of_image image sections) ≡ Ok (Some walk) →
     import_data_at (map_of_image image sections) (entry_size (image.width == 64)) b (import_directory image).virtual_address ≡ Ok rs →
     (reported : List Library) × ReturnsItems (StepsLibraries (map_of_image image sections) (entry_size (image.width == 64)) b) walk (map (λ x. Ok x) reported) ×
     AllZip (ReportsLibrary (map_of_image image sections) (entry_size (image.width == 64)) b) reported rs
-libraries_in_turn b image sections walk rs bytes small e whole =
-    subst (ReturnsReported (StepsLibraries (map_of_image image sections) (entry_size (image.width == 64)) b) (ReportsLibrary (map_of_image image sections) (entry_size (image.width == 64)) b) walk) whole
-    (reported_of_image b image sections walk bytes small e)
+libraries_in_turn b image sections walk rs bytes small e whole = grind (arith, reported_of_image)
 
 pub refused_in_turn : (b : List ℕ) (image : Image) (sections : List SectionTable) (walk : Libraries) (refusal : Refusal) → AreBytes b → length b ≤ 2 ^ 63 → libraries_at image (map_of_image image sections) ≡ Ok (Some walk) →
     import_data_at (map_of_image image sections) (entry_size (image.width == 64)) b (import_directory image).virtual_address ≡ Err refusal →
     (reported : List Library) × (rs : List ImportRecordView) ×
     ReturnsItems (StepsLibraries (map_of_image image sections) (entry_size (image.width == 64)) b) walk (map (λ x. Ok x) reported ++ Err refusal ∷ []) ×
     AllZip (ReportsLibrary (map_of_image image sections) (entry_size (image.width == 64)) b) reported rs
-refused_in_turn b image sections walk refusal bytes small e is_error =
-    subst (ReturnsReported (StepsLibraries (map_of_image image sections) (entry_size (image.width == 64)) b) (ReportsLibrary (map_of_image image sections) (entry_size (image.width == 64)) b) walk) is_error
-    (reported_of_image b image sections walk bytes small e)
+refused_in_turn b image sections walk refusal bytes small e is_error = grind (arith, reported_of_image)
 
 -- ---- records in turn
 
-as_given : {X : Type 0} (r : Result X Refusal) → r ≡ (r >>= λ x. Ok x)
-as_given (Ok x) = refl
-as_given (Err e) = refl
-
-rest_in_turn : {X : Type 0} (x : X) (first more : Result (List X) Refusal) →
-    with_rest (x ∷ []) (first >>= λ xs. more >>= λ ys. Ok (xs ++ ys)) ≡ (with_rest (x ∷ []) first >>= λ xs. more >>= λ ys. Ok (xs ++ ys))
-rest_in_turn x (Ok xs) (Ok ys) = refl
-rest_in_turn x (Ok xs) (Err e) = refl
-rest_in_turn x (Err e) more = refl
-
 all_in_turn : {X : Type 0} (xs ys : List (Result X Refusal)) → all_or_refusal (xs ++ ys) ≡ (all_or_refusal xs >>= λ first. all_or_refusal ys >>= λ more. Ok (first ++ more))
-all_in_turn [] ys = as_given (all_or_refusal ys)
-all_in_turn (Ok x ∷ xs) ys = ap (with_rest (x ∷ [])) (all_in_turn xs ys) ∙ rest_in_turn x (all_or_refusal xs) (all_or_refusal ys)
+all_in_turn [] ys = grind arith
+all_in_turn (Ok x ∷ xs) ys = ap (with_rest (x ∷ [])) (all_in_turn xs ys) ∙ grind arith
 all_in_turn (Err e ∷ xs) ys = refl
 
 pub imports_in_turn : ImportsInTurn
 unfolding imports import_entries
-imports_in_turn offset w b r rs =
-    let its : List EntryView = each (import_entry_at w r) (length r.lookups / w) in
-    let others : List EntryView = import_entries w rs in
-    ap all_or_refusal (map-append (import_of offset w b) its others)
-    ∙ all_in_turn (map (import_of offset w b) its) (map (import_of offset w b) others)
-    ∙ ap (λ (es : List EntryView). all_or_refusal (map (import_of offset w b) es) >>= λ first. all_or_refusal (map (import_of offset w b) others) >>= λ more. Ok (first ++ more)) (sym (append-nil its))
+imports_in_turn = grind (arith, map-append, all_in_turn, append-nil)

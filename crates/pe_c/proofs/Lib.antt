@@ -1,3 +1,4 @@
+mod Cited
 pub mod PdbFrames
 pub mod ImportRuns
 pub mod DebugAlone

@@ -1,32 +1,13 @@
 -- The libraries of an image are those whose names the walk over libraries returns.
-use Rattle.std.proofs.Common.{◌≡◌, ℕ, ◌≤◌, ◌^◌, Bool, true, false, List, [], ◌∷◌, length, map, Option, Some, None, Result, Ok, Err, sym, ap, subst}
-use Rattle.std.specs.Prelude.{◌==◌, ◌↔◌}
-use Rattle.std.specs.List.{AllZip}
-use Rattle.std.specs.Option.{option_map}
-use Rattle.pe_core.proofs.Steps.{given, same_inside}
-use Rattle.pe_core.specs.Bytes.{AreBytes}
-use Rattle.pe_core.specs.Header.{HeaderView}
-use Rattle.pe_core.specs.Imports.{AreLibraries, ImportRecordView, ImportView, entry_size}
-use Rattle.pe_core.specs.Refusals.{Refusal}
-use Rattle.pe_core.specs.Sections.{sections_at}
-use Rattle.pe_core.specs.declared.options.ParseMode.{ParseMode}
-use Rattle.pe_core.specs.declared.options.ParseOptions.{ParseOptions}
-use Rattle.pe_core.specs.declared.section_table.SectionTable.{SectionTable}
-use Rattle.pe_image.specs.Core.{AreLibrariesOf}
-use Rattle.pe_image.specs.Image.{ImageView, IsImage}
+use Rattle.std.proofs.Common.{◌≡◌, ℕ, ◌≤◌, ◌^◌, Bool, true, false, List, [], ◌∷◌, length, map, Option, Some, None, Result, Ok, Err, sym, ap, subst, arith}
+use Rattle.pe_c.proofs.Cited.{◌==◌, ◌↔◌, AllZip, option_map, given, same_inside, AreBytes, HeaderView, AreLibraries}
+use Rattle.pe_c.proofs.Cited.{ImportRecordView, ImportView, entry_size, Refusal, sections_at, ParseMode, ParseOptions, SectionTable}
+use Rattle.pe_c.proofs.Cited.{AreLibrariesOf, ImageView, IsImage, libraries_move, one_range, ReportsOne, one_run, one_zip}
+use Rattle.pe_c.proofs.Cited.{same_values, header_of, IsImageAfter, IsImageWith, Parts, image_of_parts, mode_of, part_by_mode}
+use Rattle.pe_c.proofs.Cited.{AreImportsAfter, AreImportsBy, IsLibrary, in_turn, image_at, map_of_image, StepsLibraries}
+use Rattle.pe_c.proofs.Cited.{libraries_at, Image, Libraries, Library}
 use Rattle.pe_c.proofs.ImagesByCalls.{SomeResource, image_of_calls}
-use Rattle.calls_failures.proofs.OneImports.{libraries_move}
-use Rattle.calls_failures.proofs.OneParts.{one_range}
-use Rattle.calls_failures.proofs.OneRun.{ReportsOne, one_run, one_zip, same_values}
-use Rattle.pe_c.specs.HeadersRead.{header_of}
-use Rattle.pe_c.specs.ImageOfCalls.{IsImageAfter, IsImageWith, Parts, image_of_parts, mode_of, part_by_mode}
-use Rattle.calls_failures.specs.ImageParts.{AreImportsAfter, AreImportsBy, IsLibrary, in_turn}
-use Rattle.calls_base.specs.Images.{image_at, map_of_image}
-use Rattle.calls_directories.specs.Imports.{StepsLibraries, libraries_at}
 use Rattle.pe_c.specs.LibrariesOfCalls.{AreLibrariesOfCalls, AreNamesAfter, AreNamesBy, IsNameOf}
-use Rattle.calls_base.specs.declared.image.Image.{Image}
-use Rattle.calls_directories.specs.declared.names.imports.Libraries.{Libraries}
-use Rattle.calls_directories.specs.declared.names.imports.Library.{Library}
 
 -- records and imports
 abbrev Found : Type 0
@@ -71,9 +52,7 @@ by_records offset w b walk (Ok rs) i sorted is =
     )
 
 none_found : (i : Found) (sorted : List (List ℕ)) → ◌≡◌ {A = Result Found Refusal} (Ok i) (Ok None) → (AreLibrariesOf (records_in i) sorted ↔ (sorted ≡ []))
-none_found i sorted e =
-    let none : i ≡ None = same_inside i None e in
-    subst (λ (j : Found). AreLibrariesOf (records_in j) sorted ↔ (sorted ≡ [])) (sym none) (λ h. h, λ h. h)
+none_found i sorted e = grind (arith, same_inside)
 
 by_imports : (b : List ℕ) (image : Image) (sections : List SectionTable) (wanted : Bool) (start : Result (Option Libraries) Refusal) (i : Found) (sorted : List (List ℕ)) → AreImportsBy wanted b image sections start (Ok i) →
     (AreLibrariesOf (records_in i) sorted ↔ AreNamesBy wanted b image sections start sorted)

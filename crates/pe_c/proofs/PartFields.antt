@@ -1,9 +1,7 @@
 -- What functions of pe.h return that take one field of what the call for parts of a signature writes.
 use Rattle.std.proofs.Common.{◌≡◌, ℕ, Option, Some, None, Result, Ok, Err, ap, ◌∙◌}
-use Rattle.std.specs.Option.{option_map}
-use Rattle.pe_core.specs.Refusals.{◌>>=◌}
+use Rattle.pe_c.proofs.Cited.{option_map, ◌>>=◌, SignatureHandsOut, SignatureHandsOutIf}
 use Rattle.pe_c.specs.AnyParts.{in_field}
-use Rattle.calls_signatures.specs.SignatureParts.{SignatureHandsOut, SignatureHandsOutIf}
 use Rattle.pe_c.specs.declared.signatures.parts.AnyPart.{AnyPart}
 use Rattle.calls_signatures.specs.declared.refused.SignatureFailure.{SignatureFailure}
 

@@ -1,59 +1,35 @@
 -- Inlined functions of a PDB with other names, and with other lines.
-use Rattle.std.proofs.Common.{◌≡◌, ℕ, List, [], ◌∷◌, map, Option, Some, None, Result, Ok, Err, refl, ap, ◌∙◌, sym}
-use Rattle.pe_core.specs.Refusals.{◌>>=◌}
+use Rattle.std.proofs.Common.{◌≡◌, ℕ, List, [], ◌∷◌, map, Option, Result, Ok, refl, ◌∙◌, sym, arith}
+use Rattle.pe_c.proofs.Cited.{◌>>=◌, Range}
 use Rattle.pe_pdb.specs.Ids.{types_of}
-use Rattle.pe_pdb.specs.Inlinees.{inline_line}
 use Rattle.pe_pdb.specs.Refusals.{PdbRefusal}
 use Rattle.pe_pdb.specs.declared.inline_rows.InlineRow.{InlineRow}
 use Rattle.pe_pdb.specs.declared.inlinee.InlineeLine.{InlineeLine}
-use Rattle.pe_pdb.specs.declared.inlinee.SourceLine.{SourceLine}
 use Rattle.pe_c.specs.PdbFrames.{all_named, all_placed, named, placed, with_lines}
-use Rattle.calls_pdb.specs.PdbInlined.{bare, inlined_by, inlined_functions, inlinee_in, inlinees_at, line_put, name_found, name_put, source_put, stack_at}
+use Rattle.calls_pdb.specs.PdbInlined.{bare, inlined_by, inlined_functions, inlinee_in, inlinees_at, line_put, name_found, name_put, stack_at}
 use Rattle.calls_pdb.specs.declared.inlined.FunctionName.{FunctionName}
 use Rattle.calls_pdb.specs.declared.inlined.PdbInlined.{PdbInlined}
 use Rattle.calls_pdb.specs.declared.modules.PdbModule.{PdbModule}
 use Rattle.calls_pdb.specs.declared.symbols.PdbSymbol.{PdbSymbol}
-use Rattle.calls_base.specs.declared.ranges.Range.{Range}
 
 -- ---- one function
 
-source_placed : (x : PdbInlined) (n : Result (Option FunctionName) PdbRefusal) (at : Option SourceLine) → placed (source_put (name_put x n) at) ≡ placed (source_put x at)
-source_placed x (Ok (Some n)) (Some at) = refl
-source_placed x (Ok (Some n)) None = refl
-source_placed x (Ok None) at = refl
-source_placed x (Err r) (Some at) = refl
-source_placed x (Err r) None = refl
-
 line_placed : (x : PdbInlined) (n : Result (Option FunctionName) PdbRefusal) (row : InlineRow) (l : Result (Option InlineeLine) PdbRefusal) →
     placed (line_put (name_put x n) row l) ≡ placed (line_put x row l)
-line_placed x n row (Ok (Some i)) = source_placed x n (inline_line i row)
-line_placed x (Ok (Some n)) row (Ok None) = refl
-line_placed x (Ok None) row (Ok None) = refl
-line_placed x (Err r) row (Ok None) = refl
-line_placed x (Ok (Some n)) row (Err refusal) = refl
-line_placed x (Ok None) row (Err refusal) = refl
-line_placed x (Err r) row (Err refusal) = refl
-
-source_named : (x : PdbInlined) (at : Option SourceLine) → named (source_put x at) ≡ named x
-source_named x (Some at) = refl
-source_named x None = refl
+line_placed x n row l = grind arith
 
 line_named : (x : PdbInlined) (row : InlineRow) (l : Result (Option InlineeLine) PdbRefusal) → named (line_put x row l) ≡ named x
-line_named x row (Ok (Some i)) = source_named x (inline_line i row)
-line_named x row (Ok None) = refl
-line_named x row (Err refusal) = refl
+line_named x row l = grind arith
 
 -- ---- all of them
 
 mapped_same : {X Y Z : Type 0} (view : Y → Z) (f g : X → Y) → ((x : X) → view (f x) ≡ view (g x)) → (xs : List X) → map view (map f xs) ≡ map view (map g xs)
 mapped_same view f g same [] = refl
-mapped_same {X} {Y} {Z} view f g same (x ∷ xs) =
-    ap (λ (z : Z). z ∷ map view (map f xs)) (same x) ∙ ap (λ (zs : List Z). view (g x) ∷ zs) (mapped_same view f g same xs)
+mapped_same {X} {Y} {Z} view f g same (x ∷ xs) = grind (arith, mapped_same view f g same xs)
 
 found_same : {X Y Z : Type 0} (view : Y → Z) (f g : X → Y) → ((x : X) → view (f x) ≡ view (g x)) → (found : Result (List X) PdbRefusal) →
     ((found >>= λ xs. Ok (map f xs)) >>= λ ys. Ok (map view ys)) ≡ ((found >>= λ xs. Ok (map g xs)) >>= λ ys. Ok (map view ys))
-found_same {X} {Y} {Z} view f g same (Ok xs) = ap (λ (zs : List Z). Ok zs) (mapped_same view f g same xs)
-found_same view f g same (Err r) = refl
+found_same view f g same found = grind (arith, mapped_same)
 
 pub lines_alone : (b : List ℕ) (m : PdbModule) (s : PdbSymbol) (rva : ℕ) (ids starts other_ids other_starts : List ℕ) →
     all_placed (inlined_functions b m s rva ids starts) ≡ all_placed (inlined_functions b m s rva other_ids other_starts)

@@ -1,13 +1,11 @@
 -- The parts of a section, written one after the other, are the section.
 use Rattle.std.proofs.Common.{◌≡◌, ℕ, ◌+◌, ◌*◌, ◌-◌, ◌<◌, ◌≤◌, List, [], ◌∷◌, ◌++◌, length, replicate, ap, refl, sym, ◌∙◌, subst, arith, length-append}
-use Rattle.std.specs.List.{flat_map}
-use Rattle.std.proofs.lemmas.List.{length-replicate}
-use Rattle.pe_core.specs.Bytes.{splice}
-use Rattle.pe_edit.specs.declared.layout.Layout.{Layout}
+use Rattle.pe_edit.proofs.Cited.{flat_map, length-replicate, splice, Layout, AllPartsFit, PartsFit, directories_at, key_at}
+use Rattle.pe_edit.proofs.Cited.{names_total, parts_total, runs_of, size_at, elements, Accepted, Leaf, below_size, contents}
+use Rattle.pe_edit.proofs.Cited.{data_entries, directory_to, layout_of, name_key, name_size, names, names_size, padded_size}
+use Rattle.pe_edit.proofs.Cited.{resource_size, resource_tables, resources_of, same_resource, section, section_at, section_length}
+use Rattle.pe_edit.proofs.Cited.{total, type_key, type_size, type_tables, types_of}
 use Rattle.pe_edit.specs.declared.level.Level.TheVariants as levels
-use Rattle.pe_edit.specs.Levels.{AllPartsFit, PartsFit, directories_at, key_at, names_total, parts_total, runs_of, size_at}
-use Rattle.pe_edit.specs.Runs.{elements}
-use Rattle.pe_edit.specs.Written.{Accepted, Leaf, below_size, contents, data_entries, directory_to, layout_of, name_key, name_size, names, names_size, padded_size, resource_size, resource_tables, resources_of, same_resource, section, section_at, section_length, total, type_key, type_size, type_tables, types_of}
 use Rattle.pe_edit.proofs.DirectoryLoops.{language_parts, no_language_names, resource_tables_are, resources_are, type_tables_are, types_are}
 use Rattle.pe_edit.proofs.Levels.{length-names, length-resource_tables}
 use Rattle.pe_edit.proofs.Nested.{names_of, sum_in_types}
@@ -47,66 +45,32 @@ pub stage_0 : (b : List ℕ) (l : Layout) (rva : ℕ) (xs : List Leaf) → lengt
 unfolding section_at
 stage_0 b l rva xs h = nothing_written b 0 (section_at l rva xs) (omega (arith, h))
 
-pub stage_1 : (b now next : List ℕ) (l : Layout) (rva : ℕ) (xs : List Leaf) → IsLayout l xs → Written b now 0 0 (section_at l rva xs) (first l xs ++ after_first l rva xs) →
-    next ≡ splice now 0 (directory_to (key_at levels.Types) (size_at levels.Types) l.type_names (2147483648 + l.types) (runs_of levels.Types xs)) → Written b next 0 l.types (section_at l rva xs) (after_first l rva xs)
-stage_1 b now next l rva xs is w e =
-    more_written b now next 0 0 l.types (section_at l rva xs) (first l xs) (after_first l rva xs) w
-    (e ∙ ap (λ (ts : List (Leaf × List Leaf)). splice now 0 (directory_to type_key type_size l.type_names (2147483648 + l.types) ts)) (types_are xs))
-    (omega (arith, is.types, length-directory_to type_key type_size l.type_names (2147483648 + l.types) (types_of xs)))
-
 pub type_tables_by : (s p : ℕ) (xs : List Leaf) → directories_at levels.Names s p (runs_of levels.Types xs) ≡ type_tables s p (types_of xs)
 type_tables_by s p xs = ap (directories_at levels.Names s p) (types_are xs) ∙ type_tables_are s p (types_of xs)
 
 pub resource_tables_by : (p : ℕ) (xs : List Leaf) → directories_at levels.Languages 0 p (runs_of levels.Names xs) ≡ resource_tables p (resources_of xs)
 resource_tables_by p xs = ap (directories_at levels.Languages 0 p) (resources_are xs) ∙ resource_tables_are 0 p (resources_of xs) refl
 
-pub stage_2 : (b now next : List ℕ) (l : Layout) (rva : ℕ) (xs : List Leaf) → IsLayout l xs → Written b now 0 l.types (section_at l rva xs) (after_first l rva xs) →
-    next ≡ splice now l.types (directories_at levels.Names l.names (2147483648 + l.languages) (runs_of levels.Types xs)) → Written b next 0 l.languages (section_at l rva xs) (after_types l rva xs)
-stage_2 b now next l rva xs is w e =
-    more_written b now next 0 l.types l.languages (section_at l rva xs) (type_tables l.names (2147483648 + l.languages) (types_of xs)) (after_types l rva xs) w
-    (e ∙ ap (splice now l.types) (type_tables_by l.names (2147483648 + l.languages) xs))
-    (omega (arith, is.languages, length-type_tables l.names (2147483648 + l.languages) (types_of xs)))
-
-pub stage_3 : (b now next : List ℕ) (l : Layout) (rva : ℕ) (xs : List Leaf) → IsLayout l xs → Written b now 0 l.languages (section_at l rva xs) (after_types l rva xs) →
-    next ≡ splice now l.languages (directories_at levels.Languages 0 l.entries (runs_of levels.Names xs)) → Written b next 0 l.entries (section_at l rva xs) (after_languages l rva xs)
-stage_3 b now next l rva xs is w e =
-    more_written b now next 0 l.languages l.entries (section_at l rva xs) (resource_tables l.entries (resources_of xs)) (after_languages l rva xs) w
-    (e ∙ ap (splice now l.languages) (resource_tables_by l.entries xs))
-    (omega (arith, is.entries, length-resource_tables l.entries (resources_of xs)))
-
 pub stage_4 : (b now next : List ℕ) (l : Layout) (rva : ℕ) (xs : List Leaf) → IsLayout l xs → Written b now 0 l.entries (section_at l rva xs) (after_languages l rva xs) →
     next ≡ splice now l.entries (data_entries (rva + l.contents) xs) → Written b next 0 l.type_names (section_at l rva xs) (after_entries l xs)
-stage_4 b now next l rva xs is w e =
-    more_written b now next 0 l.entries l.type_names (section_at l rva xs) (data_entries (rva + l.contents) xs) (after_entries l xs) w e
-    (omega (arith, is.type_names, length-data_entries (rva + l.contents) xs))
+stage_4 b now next l rva xs is w e = grind (arith, more_written, length-data_entries)
 
 pub stage_5 : (b now next : List ℕ) (l : Layout) (rva : ℕ) (xs : List Leaf) → IsLayout l xs → Written b now 0 l.type_names (section_at l rva xs) (after_entries l xs) →
     next ≡ splice now l.type_names (names (key_at levels.Types) (runs_of levels.Types xs)) → Written b next 0 l.names (section_at l rva xs) (after_type_names l xs)
-stage_5 b now next l rva xs is w e =
-    more_written b now next 0 l.type_names l.names (section_at l rva xs) (names type_key (types_of xs)) (after_type_names l xs) w
-    (e ∙ ap (λ (ts : List (Leaf × List Leaf)). splice now l.type_names (names type_key ts)) (types_are xs))
-    (omega (arith, is.names, length-names type_key (types_of xs)))
+stage_5 b now next l rva xs is w e = grind (arith, more_written, types_are, length-names)
 
 pub stage_6 : (b now next : List ℕ) (l : Layout) (rva : ℕ) (xs : List Leaf) → IsLayout l xs → Written b now 0 l.names (section_at l rva xs) (after_type_names l xs) →
     next ≡ splice now l.names (names (key_at levels.Names) (runs_of levels.Names xs)) → Written b next 0 l.names_end (section_at l rva xs) (after_names l xs)
-stage_6 b now next l rva xs is w e =
-    more_written b now next 0 l.names l.names_end (section_at l rva xs) (names name_key (resources_of xs)) (after_names l xs) w
-    (e ∙ ap (λ (ns : List (Leaf × List Leaf)). splice now l.names (names name_key ns)) (resources_are xs))
-    (omega (arith, is.names_end, length-names name_key (resources_of xs)))
+stage_6 b now next l rva xs is w e = grind (arith, more_written, resources_are, length-names)
 
 pub stage_7 : (b now next : List ℕ) (l : Layout) (rva : ℕ) (xs : List Leaf) → IsLayout l xs → Written b now 0 l.names_end (section_at l rva xs) (after_names l xs) →
     next ≡ splice now l.names_end (replicate (l.contents - l.names_end) 0) → Written b next 0 l.contents (section_at l rva xs) (contents xs)
-stage_7 b now next l rva xs is w e =
-    more_written b now next 0 l.names_end l.contents (section_at l rva xs) (replicate (l.contents - l.names_end) 0) (contents xs) w e
-    (omega (arith, is.contents, length-replicate {A = ℕ} (l.contents - l.names_end) 0))
+stage_7 b now next l rva xs is w e = grind (arith, more_written, length-replicate)
 
 -- the bytes of the section by its layout
 section_is : (l : Layout) (rva : ℕ) (xs : List Leaf) → l ≡ layout_of xs → section_at l rva xs ≡ section rva xs
 unfolding section
 section_is l rva xs e = ap (λ (k : Layout). section_at k rva xs) e
-
-pub length_by_layout : (l : Layout) (rva : ℕ) (xs : List Leaf) → l ≡ layout_of xs → length (section_at l rva xs) ≡ section_length xs
-length_by_layout l rva xs e = ap length (section_is l rva xs e) ∙ length_of_section rva xs
 
 pub stage_8 : (b now next : List ℕ) (l : Layout) (rva : ℕ) (xs : List Leaf) → l ≡ layout_of xs → Written b now 0 l.contents (section_at l rva xs) (contents xs) → next ≡ splice now l.contents (contents xs) → next ≡ splice b 0 (section rva xs)
 stage_8 b now next l rva xs is w e = last_written b now next 0 l.contents (section_at l rva xs) (contents xs) w e ∙ ap (splice b 0) (section_is l rva xs is)
@@ -217,19 +181,21 @@ names_before l xs e = let is : IsLayout l xs = layout_is l xs e in omega (arith,
 -- ---- all steps
 
 pub at_0 : (b : List ℕ) (l : Layout) (rva : ℕ) (xs : List Leaf) → l ≡ layout_of xs → section_length xs ≤ length b → Written b b 0 0 (section_at l rva xs) (first l xs ++ after_first l rva xs)
-at_0 b l rva xs e r = stage_0 b l rva xs (omega (arith, r, length_by_layout l rva xs e))
+at_0 b l rva xs e r = stage_0 b l rva xs (omega (arith, r, ap length (section_is l rva xs e) ∙ length_of_section rva xs))
 
 pub at_1 : (b b1 : List ℕ) (l : Layout) (rva : ℕ) (xs : List Leaf) → l ≡ layout_of xs → section_length xs ≤ length b →
     b1 ≡ splice b 0 (directory_to (key_at levels.Types) (size_at levels.Types) l.type_names (2147483648 + l.types) (runs_of levels.Types xs)) → Written b b1 0 l.types (section_at l rva xs) (after_first l rva xs)
-at_1 b b1 l rva xs e r h1 = stage_1 b b b1 l rva xs (layout_is l xs e) (at_0 b l rva xs e r) h1
+at_1 b b1 l rva xs e r h1 = grind (arith, more_written, types_are, length-directory_to, layout_is l xs e, at_0 b l rva xs e r)
 
 pub at_2 : (b b1 b2 : List ℕ) (l : Layout) (rva : ℕ) (xs : List Leaf) → l ≡ layout_of xs → section_length xs ≤ length b →
     b1 ≡ splice b 0 (directory_to (key_at levels.Types) (size_at levels.Types) l.type_names (2147483648 + l.types) (runs_of levels.Types xs)) →
     b2 ≡ splice b1 l.types (directories_at levels.Names l.names (2147483648 + l.languages) (runs_of levels.Types xs)) → Written b b2 0 l.languages (section_at l rva xs) (after_types l rva xs)
-at_2 b b1 b2 l rva xs e r h1 h2 = stage_2 b b1 b2 l rva xs (layout_is l xs e) (at_1 b b1 l rva xs e r h1) h2
+at_2 b b1 b2 l rva xs e r h1 h2 =
+    grind (arith, more_written, type_tables_by, length-type_tables, layout_is l xs e, at_1 b b1 l rva xs e r h1)
 
 pub at_3 : (b b1 b2 b3 : List ℕ) (l : Layout) (rva : ℕ) (xs : List Leaf) → l ≡ layout_of xs → section_length xs ≤ length b →
     b1 ≡ splice b 0 (directory_to (key_at levels.Types) (size_at levels.Types) l.type_names (2147483648 + l.types) (runs_of levels.Types xs)) →
     b2 ≡ splice b1 l.types (directories_at levels.Names l.names (2147483648 + l.languages) (runs_of levels.Types xs)) →
     b3 ≡ splice b2 l.languages (directories_at levels.Languages 0 l.entries (runs_of levels.Names xs)) → Written b b3 0 l.entries (section_at l rva xs) (after_languages l rva xs)
-at_3 b b1 b2 b3 l rva xs e r h1 h2 h3 = stage_3 b b2 b3 l rva xs (layout_is l xs e) (at_2 b b1 b2 l rva xs e r h1 h2) h3
+at_3 b b1 b2 b3 l rva xs e r h1 h2 h3 =
+    grind (arith, more_written, resource_tables_by, length-resource_tables, layout_is l xs e, at_2 b b1 b2 l rva xs e r h1 h2)

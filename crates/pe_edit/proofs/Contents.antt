@@ -1,13 +1,11 @@
 -- The loops over contents, data entries and names.
 use Rattle.std.proofs.Common.{◌≡◌, ℕ, ◌+◌, ◌-◌, ◌*◌, ◌/◌, ◌<◌, ◌≤◌, List, [], ◌∷◌, ◌++◌, length, drop, get_or, replicate, ap, sym, ◌∙◌, subst, arith, length-append}
-use Rattle.std.proofs.lemmas.List.{append_assoc, drop_all, length-replicate}
-use Rattle.std.specs.Borrow.{Bor}
-use Rattle.pe_core.specs.Bytes.{bytes_of, splice}
-use Rattle.pe_core.proofs.Splices.{length-bytes_of, splice-splice}
+use Rattle.pe_edit.proofs.Cited.{append_assoc, drop_all, length-replicate, Bor, bytes_of, splice, length-bytes_of, splice-splice}
+use Rattle.pe_edit.proofs.Cited.{key_view, no_leaf, Leaf, contents, data_entries, data_entry, name_bytes, padded_content}
+use Rattle.pe_edit.proofs.Cited.{padded_length, padded_size, total}
 use Rattle.pe_edit.specs.declared.leaf.ResourceKey.{ResourceKey}
 use Rattle.pe_edit.specs.declared.leaf.ResourceKey.TheVariants as keys
-use Rattle.pe_edit.specs.Views.{key_view, no_leaf}
-use Rattle.pe_edit.specs.Written.{Leaf, contents, data_entries, data_entry, name_bytes, padded_content, padded_length, padded_size, total}
+use Rattle.pe_edit.proofs.Tests.{more_end}
 use Rattle.pe_edit.proofs.Reading.{padded_more}
 use Rattle.pe_edit.proofs.RunsAt.{leaf_at}
 use Rattle.pe_edit.proofs.SectionRead.{length-data_entries}
@@ -17,22 +15,14 @@ use Rattle.pe_edit.proofs.Writing.{Written, all_written, more_written, nothing_w
 
 -- a content and its zeros
 pub length_padded : (c : List ℕ) → length (padded_content c) ≡ padded_length (length c)
-length_padded c =
-    length-append c (replicate (padded_length (length c) - length c) 0)
-    ∙ omega (arith, length-replicate {A = ℕ} (padded_length (length c) - length c) 0, padded_more (length c))
+length_padded c = grind (arith, length-append, length-replicate, padded_more)
 
 pub padded_parts : (b next last c : List ℕ) (p n : ℕ) → p + length (padded_content c) ≤ length b → n ≡ padded_length (length c) - length c → next ≡ splice b p c → last ≡ splice next (p + length c) (replicate n 0) → last ≡ splice b p (padded_content c)
-padded_parts b next last c p n h e f i =
-    i ∙ ap (λ (x : List ℕ). splice x (p + length c) (replicate n 0)) f
-    ∙ splice-splice b p c (replicate n 0) (omega (arith, h)) ∙ ap (λ (k : ℕ). splice b p (c ++ replicate k 0)) e
+padded_parts b next last c p n h e f i = grind (arith, splice-splice)
 
 contents_at : (xs : List Leaf) (i : ℕ) (x : Leaf) → i < length xs → x ≡ get_or xs i no_leaf → contents (drop i xs) ≡ padded_content x.content ++ contents (drop (i + 1) xs)
 unfolding contents
 contents_at xs i x h q = ap contents (leaf_at xs i x h q)
-
-no_contents : (ys : List Leaf) → ys ≡ [] → contents ys ≡ []
-unfolding contents
-no_contents ys e = ap contents e
 
 -- the contents up to that with an index are written
 abbrev pub ContentsWritten : List ℕ → List ℕ → ℕ → ℕ → ℕ → List Leaf → Type 0
@@ -50,8 +40,9 @@ content_more old now next at end after i xs x h q w e f =
     (subst (λ (r : List ℕ). Written old now at end (contents xs) r) (contents_at xs i x h q) w) e f
 
 pub all_contents_written : (old now : List ℕ) (at end i : ℕ) (xs : List Leaf) → length xs ≤ i → ContentsWritten old now at end i xs → now ≡ splice old at (contents xs)
+unfolding contents
 all_contents_written old now at end i xs h w =
-    all_written old now at end (contents xs) (contents (drop i xs)) (no_contents (drop i xs) (drop_all i xs h)) w
+    all_written old now at end (contents xs) (contents (drop i xs)) (ap contents (drop_all i xs h)) w
 
 -- ---- data entries
 
@@ -68,23 +59,14 @@ four_numbers b b1 b2 b3 b4 p a n g h e f i j =
     let low : p ≤ length b = omega (arith, h) in
     let x2 : b2 ≡ splice b p (s ++ t) = f ∙ ap (λ (x : List ℕ). splice x (p + 4) t) e ∙ ap (λ (k : ℕ). splice (splice b p s) k t) one ∙ splice-splice b p s t low in
     let x3 : b3 ≡ splice b p ((s ++ t) ++ u) = i ∙ ap (λ (x : List ℕ). splice x (p + 8) u) x2 ∙ ap (λ (k : ℕ). splice (splice b p (s ++ t)) k u) two ∙ splice-splice b p (s ++ t) u low in
-    j ∙ ap (λ (x : List ℕ). splice x (p + 12) v) x3 ∙ ap (λ (k : ℕ). splice (splice b p ((s ++ t) ++ u)) k v) three ∙ splice-splice b p ((s ++ t) ++ u) v low
-    ∙ ap (splice b p) (append_assoc (s ++ t) u v ∙ append_assoc s t (u ++ v))
+    grind (arith, j, x3, three, splice-splice b p ((s ++ t) ++ u) v low, append_assoc (s ++ t) u v, append_assoc s t (u ++ v))
 
 length-data_entry : (a n g : ℕ) → length (data_entry a n g) ≡ 16
-length-data_entry a n g =
-    length-append (bytes_of 4 a) (bytes_of 4 n ++ (bytes_of 4 g ++ bytes_of 4 0))
-    ∙ omega (arith, length-append (bytes_of 4 n) (bytes_of 4 g ++ bytes_of 4 0), length-append (bytes_of 4 g) (bytes_of 4 0), length-bytes_of 4 a, length-bytes_of 4 n, length-bytes_of 4 g, length-bytes_of 4 0)
+length-data_entry a n g = grind (arith, length-append, length-bytes_of)
 
 entries_cons : (a : ℕ) (x : Leaf) (xs : List Leaf) → data_entries a (x ∷ xs) ≡ data_entry a (length x.content) x.code_page ++ data_entries (a + padded_size x) xs
 unfolding data_entries
-entries_cons a x xs =
-    let s : List ℕ = bytes_of 4 a in
-    let t : List ℕ = bytes_of 4 (length x.content) in
-    let u : List ℕ = bytes_of 4 x.code_page in
-    let v : List ℕ = bytes_of 4 0 in
-    let rest : List ℕ = data_entries (a + padded_size x) xs in
-    sym (append_assoc s (t ++ (u ++ v)) rest ∙ ap (λ (l : List ℕ). s ++ l) (append_assoc t (u ++ v) rest ∙ ap (λ (l : List ℕ). t ++ l) (append_assoc u v rest)))
+entries_cons a x xs = grind (arith, append_assoc)
 
 -- the data entries up to that with an index are written; its content is at the RVA a
 pub record DataWritten (old now : List ℕ) (at end first a i : ℕ) (xs : List Leaf) : Type 0 where
@@ -92,17 +74,10 @@ pub record DataWritten (old now : List ℕ) (at end first a i : ℕ) (xs : List 
   pub sum : a + total padded_size (drop i xs) < 4294967296
 
 pub no_data_written : (old : List ℕ) (at first : ℕ) (xs : List Leaf) → at + 16 * length xs ≤ length old → first + total padded_size xs < 4294967296 → DataWritten old old at at first first 0 xs
-no_data_written old at first xs h f = record {
-  written = nothing_written old at (data_entries first xs) (omega (arith, h, length-data_entries first xs));
-  sum = f;
-}
-
-sum_at : (xs : List Leaf) (i : ℕ) (x : Leaf) → i < length xs → x ≡ get_or xs i no_leaf → total padded_size (drop i xs) ≡ padded_length (length x.content) + total padded_size (drop (i + 1) xs)
-unfolding total
-sum_at xs i x h q = ap (total padded_size) (leaf_at xs i x h q)
+no_data_written old at first xs h f = grind (arith, nothing_written, length-data_entries)
 
 pub data_small : (old now : List ℕ) (at end first a i : ℕ) (xs : List Leaf) (x : Leaf) → i < length xs → x ≡ get_or xs i no_leaf → DataWritten old now at end first a i xs → a + padded_length (length x.content) < 4294967296
-data_small old now at end first a i xs x h q w = omega (arith, w.sum, sum_at xs i x h q)
+data_small old now at end first a i xs x h q w = omega (arith, w.sum, more_end xs i x h q)
 
 pub size_small : (old now : List ℕ) (at end first a i : ℕ) (xs : List Leaf) (x : Leaf) → i < length xs → x ≡ get_or xs i no_leaf → DataWritten old now at end first a i xs → length x.content < 4294967296
 size_small old now at end first a i xs x h q w = omega (arith, data_small old now at end first a i xs x h q w, padded_more (length x.content))
@@ -130,16 +105,13 @@ data_more old now next at end first a i xs x after to n g h q w en eg is et ea =
       written = subst (λ (j : ℕ). Written old next at after (data_entries first xs) (data_entries j (drop (i + 1) xs))) (sym place)
           (more_written old now next at end after (data_entries first xs) (data_entry a m k) (data_entries (a + padded_length m) (drop (i + 1) xs)) (data_rest old now at end first a i xs x h q w)
           (is ∙ ap (splice now end) same) (omega (arith, ea, length-data_entry a m k)));
-      sum = omega (arith, w.sum, sum_at xs i x h q, place);
+      sum = omega (arith, w.sum, more_end xs i x h q, place);
     }
 
-no_entries : (a : ℕ) (ys : List Leaf) → ys ≡ [] → data_entries a ys ≡ []
-unfolding data_entries
-no_entries a ys e = ap (data_entries a) e
-
 pub all_data_written : (old now : List ℕ) (at end first a i : ℕ) (xs : List Leaf) → length xs ≤ i → DataWritten old now at end first a i xs → now ≡ splice old at (data_entries first xs)
+unfolding data_entries
 all_data_written old now at end first a i xs h w =
-    all_written old now at end (data_entries first xs) (data_entries a (drop i xs)) (no_entries a (drop i xs) (drop_all i xs h)) w.written
+    all_written old now at end (data_entries first xs) (data_entries a (drop i xs)) (ap (data_entries a) (drop_all i xs h)) w.written
 
 -- ---- names
 
@@ -147,14 +119,10 @@ all_data_written old now at end first a i xs h w =
 pub name_parts : (b next last u : List ℕ) (p n : ℕ) → p + length (bytes_of 2 (length u / 2) ++ u) ≤ length b → n ≡ length u / 2 → next ≡ splice b p (bytes_of 2 n) → last ≡ splice next (p + 2) u → last ≡ splice b p (bytes_of 2 (length u / 2) ++ u)
 name_parts b next last u p n h e f g =
     let two : p + 2 ≡ p + length (bytes_of 2 n) = omega (arith, length-bytes_of 2 n) in
-    g ∙ ap (λ (x : List ℕ). splice x (p + 2) u) f ∙ ap (λ (k : ℕ). splice (splice b p (bytes_of 2 n)) k u) two
-    ∙ splice-splice b p (bytes_of 2 n) u (omega (arith, h)) ∙ ap (λ (k : ℕ). splice b p (bytes_of 2 k ++ u)) e
-
-name_length : (u : List ℕ) → length (bytes_of 2 (length u / 2) ++ u) ≡ 2 + length u
-name_length u = length-append (bytes_of 2 (length u / 2)) u ∙ omega (arith, length-bytes_of 2 (length u / 2))
+    grind (arith, g, f, two, splice-splice b p (bytes_of 2 n) u (omega (arith, h)), e)
 
 pub no_name : (b : List ℕ) (p : ℕ) → p + 0 ≤ length b → b ≡ splice b p []
 no_name b p h = sym (splice_none b p (omega (arith, h)))
 
 pub named_length : (key : ResourceKey) (u : Bor (List ℕ)) → key ≡ keys.Name u → length (name_bytes (key_view key)) ≡ 2 + length u.now
-named_length key u e = ap (λ (k : ResourceKey). length (name_bytes (key_view k))) e ∙ name_length u.now
+named_length key u e = grind (arith, length-append, length-bytes_of)

@@ -1,15 +1,11 @@
 -- A directory, and the loop over the directories of a level.
 use Rattle.std.proofs.Common.{◌≡◌, ℕ, ◌+◌, ◌*◌, ◌-◌, ◌≤◌, false, List, [], ◌∷◌, ◌++◌, length, drop, map, replicate, ap, refl, sym, ◌∙◌, subst, arith, length-append}
-use Rattle.std.proofs.lemmas.List.{append_assoc, length-replicate}
-use Rattle.pe_core.specs.Bytes.{bytes_of, splice}
-use Rattle.pe_core.proofs.Splices.{length-bytes_of, splice-splice}
-use Rattle.pe_edit.specs.declared.directories.Cursor.{Cursor}
-use Rattle.pe_edit.specs.declared.level.Level.{Level}
+use Rattle.pe_edit.proofs.Cited.{append_assoc, length-replicate, bytes_of, splice, length-bytes_of, splice-splice, Cursor, Level}
+use Rattle.pe_edit.proofs.Cited.{Measure, AllPartsFit, IsRunAt, PartsFit, above, after_directory, directories_at, key_at}
+use Rattle.pe_edit.proofs.Cited.{measure_of, names_total, parts_total, runs_of, size_at, elements, in_front, runs, Leaf}
+use Rattle.pe_edit.proofs.Cited.{directory_to, entries_to, entry_size, language_key, name_size, named, resource_tables}
+use Rattle.pe_edit.proofs.Cited.{resources_of, total, type_tables, types_of, unnamed}
 use Rattle.pe_edit.specs.declared.level.Level.TheVariants as levels
-use Rattle.pe_edit.specs.declared.level.Measure.{Measure}
-use Rattle.pe_edit.specs.Levels.{AllPartsFit, IsRunAt, PartsFit, above, after_directory, directories_at, key_at, measure_of, names_total, parts_total, runs_of, size_at}
-use Rattle.pe_edit.specs.Runs.{elements, in_front, runs}
-use Rattle.pe_edit.specs.Written.{Leaf, directory_to, entries_to, entry_size, language_key, name_size, named, resource_tables, resources_of, total, type_tables, types_of, unnamed}
 use Rattle.pe_edit.proofs.Entries.{total_from}
 use Rattle.pe_edit.proofs.RunsAt.{no_runs_at}
 use Rattle.pe_edit.proofs.Tables.{both_kinds, length-directory_to}
@@ -33,18 +29,12 @@ directory_bytes level b b1 b2 b3 b4 p s q m n rs h em en e f i j =
     let three : p + 16 ≡ p + length ((x ++ y) ++ z) = omega (arith, length-append (x ++ y) z, length-append x y, length-replicate {A = ℕ} 12 0, length-bytes_of 2 m, length-bytes_of 2 n) in
     let x2 : b2 ≡ splice b p (x ++ y) = f ∙ ap (λ (l : List ℕ). splice l (p + 12) y) e ∙ ap (λ (k : ℕ). splice (splice b p x) k y) one ∙ splice-splice b p x y h in
     let x3 : b3 ≡ splice b p ((x ++ y) ++ z) = i ∙ ap (λ (l : List ℕ). splice l (p + 14) z) x2 ∙ ap (λ (k : ℕ). splice (splice b p (x ++ y)) k z) two ∙ splice-splice b p (x ++ y) z h in
-    j ∙ ap (λ (l : List ℕ). splice l (p + 16) t) x3 ∙ ap (λ (k : ℕ). splice (splice b p ((x ++ y) ++ z)) k t) three ∙ splice-splice b p ((x ++ y) ++ z) t h
-    ∙ ap (splice b p) (append_assoc (x ++ y) z t ∙ append_assoc x y (z ++ t))
-    ∙ ap (λ (k : ℕ). splice b p (x ++ (bytes_of 2 k ++ (z ++ t)))) em
-    ∙ ap (λ (k : ℕ). splice b p (x ++ (bytes_of 2 (total (λ r. named (key_at level r)) rs) ++ (bytes_of 2 k ++ t)))) rest
+    cc (j, x3, three, splice-splice b p ((x ++ y) ++ z) t h, append_assoc (x ++ y) z t, append_assoc x y (z ++ t), em, rest)
 
 pub directory_parts : (level : Level) (xs : List Leaf) (b b1 b2 b3 b4 : List ℕ) (p s q : ℕ) (x : Measure) → p ≤ length b → x ≡ measure_of level xs →
     b1 ≡ splice b p (replicate 12 0) → b2 ≡ splice b1 (p + 12) (bytes_of 2 x.named) → b3 ≡ splice b2 (p + 14) (bytes_of 2 (x.entries - x.named)) → b4 ≡ splice b3 (p + 16) (entries_to (key_at level) (size_at level) s q (runs_of level xs)) →
     b4 ≡ splice b p (directory_to (key_at level) (size_at level) s q (runs_of level xs))
-directory_parts level xs b b1 b2 b3 b4 p s q x h is e f i j =
-    let named_is : x.named ≡ total (λ r. named (key_at level r)) (runs_of level xs) = ap (λ (m : Measure). m.named) is in
-    directory_bytes level b b1 b2 b3 b4 p s q x.named (x.entries - x.named) (runs_of level xs) h named_is
-    (ap (λ (m : Measure). m.entries - m.named) is) e f i j
+directory_parts level xs b b1 b2 b3 b4 p s q x h is e f i j = grind (arith, directory_bytes)
 
 -- ---- the loop over directories
 
@@ -52,10 +42,7 @@ directories_from : (level : Level) (xs r : List Leaf) (start s p : ℕ) → IsRu
     directories_at level s p (runs_of (above level) (drop start xs))
     ≡ directory_to (key_at level) (size_at level) s p (runs_of level r) ++ directories_at level (s + names_total level (runs_of level r)) (p + parts_total level (runs_of level r)) (runs_of (above level) (drop (start + length r) xs))
 unfolding directories_at
-directories_from level xs r start s p k =
-    let more : List (Leaf × List Leaf) = runs_of (above level) (drop (start + length r) xs) in
-    ap (directories_at level s p) k.found
-    ∙ ap (λ (l : List Leaf). directory_to (key_at level) (size_at level) s p (runs_of level l) ++ directories_at level (s + names_total level (runs_of level l)) (p + parts_total level (runs_of level l)) more) (sym k.is)
+directories_from level xs r start s p k = grind arith
 
 -- the directories up to that of the leaves from one on are written
 pub record DirectoriesWritten (old now : List ℕ) (at c : Cursor) (level : Level) (xs : List Leaf) (start : ℕ) : Type 0 where
@@ -69,14 +56,12 @@ no_directories_written old at level xs h f = record { inside = omega arith; writ
 names_of_run : (level : Level) (xs r : List Leaf) (start : ℕ) → IsRunAt (above level) xs start r →
     total (λ t. names_total level (runs_of level (elements t))) (runs_of (above level) (drop start xs)) ≡ names_total level (runs_of level r) + total (λ t. names_total level (runs_of level (elements t))) (runs_of (above level) (drop (start + length r) xs))
 names_of_run level xs r start k =
-    total_from (λ t. names_total level (runs_of level (elements t))) (above level) xs r start k
-    ∙ ap (λ (l : List Leaf). names_total level (runs_of level l) + total (λ t. names_total level (runs_of level (elements t))) (runs_of (above level) (drop (start + length r) xs))) (sym k.is)
+    grind (arith, total_from (λ t. names_total level (runs_of level (elements t))) (above level) xs r start k, k.is)
 
 parts_of_run : (level : Level) (xs r : List Leaf) (start : ℕ) → IsRunAt (above level) xs start r →
     total (λ t. parts_total level (runs_of level (elements t))) (runs_of (above level) (drop start xs)) ≡ parts_total level (runs_of level r) + total (λ t. parts_total level (runs_of level (elements t))) (runs_of (above level) (drop (start + length r) xs))
 parts_of_run level xs r start k =
-    total_from (λ t. parts_total level (runs_of level (elements t))) (above level) xs r start k
-    ∙ ap (λ (l : List Leaf). parts_total level (runs_of level l) + total (λ t. parts_total level (runs_of level (elements t))) (runs_of (above level) (drop (start + length r) xs))) (sym k.is)
+    grind (arith, total_from (λ t. parts_total level (runs_of level (elements t))) (above level) xs r start k, k.is)
 
 pub directory_fits : (old now : List ℕ) (at c : Cursor) (level : Level) (xs r : List Leaf) (start : ℕ) → IsRunAt (above level) xs start r → DirectoriesWritten old now at c level xs start → PartsFit level c (runs_of level r)
 directory_fits old now at c level xs r start k w = record {
@@ -87,8 +72,7 @@ directory_fits old now at c level xs r start k w = record {
 directories_rest : (old now : List ℕ) (at c : Cursor) (level : Level) (xs r : List Leaf) (start : ℕ) → IsRunAt (above level) xs start r → DirectoriesWritten old now at c level xs start →
     Written old now at.end c.end (directories_at level at.name at.part (runs_of (above level) xs))
     (directory_to (key_at level) (size_at level) c.name c.part (runs_of level r) ++ directories_at level (c.name + names_total level (runs_of level r)) (c.part + parts_total level (runs_of level r)) (runs_of (above level) (drop (start + length r) xs)))
-directories_rest old now at c level xs r start k w =
-    subst (λ (l : List ℕ). Written old now at.end c.end (directories_at level at.name at.part (runs_of (above level) xs)) l) (directories_from level xs r start c.name c.part k) w.written
+directories_rest old now at c level xs r start k w = grind (arith, directories_from)
 
 pub directory_room : (old now : List ℕ) (at c : Cursor) (level : Level) (xs r : List Leaf) (start : ℕ) → IsRunAt (above level) xs start r → DirectoriesWritten old now at c level xs start → c.end + (16 + 8 * length (runs_of level r)) ≤ length now
 directory_room old now at c level xs r start k w =
@@ -114,14 +98,11 @@ more_directories_written old now next at c d level xs r start k w e f =
     } in
     subst (λ (x : Cursor). DirectoriesWritten old next at x level xs (start + length r)) (sym f) made
 
-no_directories : (level : Level) (s p : ℕ) (ts : List (Leaf × List Leaf)) → ts ≡ [] → directories_at level s p ts ≡ []
-unfolding directories_at
-no_directories level s p ts e = ap (directories_at level s p) e
-
 pub all_directories_written : (old now : List ℕ) (at c : Cursor) (level : Level) (xs : List Leaf) (start : ℕ) → length xs ≤ start → DirectoriesWritten old now at c level xs start → now ≡ splice old at.end (directories_at level at.name at.part (runs_of (above level) xs))
+unfolding directories_at
 all_directories_written old now at c level xs start h w =
     all_written old now at.end c.end (directories_at level at.name at.part (runs_of (above level) xs)) (directories_at level c.name c.part (runs_of (above level) (drop start xs)))
-    (no_directories level c.name c.part (runs_of (above level) (drop start xs)) (no_runs_at (above level) xs start h)) w.written
+    (ap (directories_at level c.name c.part) (no_runs_at (above level) xs start h)) w.written
 
 -- ---- what the directories of each level are
 
@@ -135,10 +116,7 @@ resources_are xs = refl
 
 pub type_tables_are : (s p : ℕ) (ts : List (Leaf × List Leaf)) → directories_at levels.Names s p ts ≡ type_tables s p ts
 unfolding directories_at type_tables resources_of
-type_tables_are s p [] = refl
-type_tables_are s p (t ∷ ts) =
-    let rs : List (Leaf × List Leaf) = runs_of levels.Names (elements t) in
-    ap (λ (l : List ℕ). directory_to (key_at levels.Names) (size_at levels.Names) s p rs ++ l) (type_tables_are (s + names_total levels.Names rs) (p + parts_total levels.Names rs) ts)
+type_tables_are s p ts = grind arith
 
 -- no leaves share a language
 pub alone : (xs : List Leaf) → runs_of levels.Languages xs ≡ map (λ x. (x, [])) xs
@@ -157,21 +135,13 @@ unfolding entries_to
 entries_map s p [] = refl
 entries_map s p (x ∷ xs) = ap (λ (l : List ℕ). bytes_of 4 x.language ++ (bytes_of 4 p ++ l)) (entries_map (s + 0) (p + 16) xs)
 
-directory_map : (s p : ℕ) (xs : List Leaf) → directory_to (key_at levels.Languages) (size_at levels.Languages) s p (map (λ x. (x, [])) xs) ≡ directory_to language_key entry_size s p xs
-unfolding directory_to
-directory_map s p xs =
-    ap (λ (n : ℕ). replicate 12 0 ++ (bytes_of 2 n ++ (bytes_of 2 (total (λ r. unnamed (key_at levels.Languages r)) (map (λ x. (x, [])) xs)) ++ entries_to (key_at levels.Languages) (size_at levels.Languages) s p (map (λ x. (x, [])) xs))))
-    (total_map (λ r. named (key_at levels.Languages r)) (λ x. (x, [])) xs)
-    ∙ ap (λ (n : ℕ). replicate 12 0 ++ (bytes_of 2 (total (λ x. named (language_key x)) xs) ++ (bytes_of 2 n ++ entries_to (key_at levels.Languages) (size_at levels.Languages) s p (map (λ x. (x, [])) xs))))
-    (total_map (λ r. unnamed (key_at levels.Languages r)) (λ x. (x, [])) xs)
-    ∙ ap (λ (l : List ℕ). replicate 12 0 ++ (bytes_of 2 (total (λ x. named (language_key x)) xs) ++ (bytes_of 2 (total (λ x. unnamed (language_key x)) xs) ++ l))) (entries_map s p xs)
-
 language_directory : (p : ℕ) (xs : List Leaf) → directory_to (key_at levels.Languages) (size_at levels.Languages) 0 p (runs_of levels.Languages xs) ≡ directory_to language_key entry_size 0 p xs
-language_directory p xs = ap (directory_to (key_at levels.Languages) (size_at levels.Languages) 0 p) (alone xs) ∙ directory_map 0 p xs
+unfolding directory_to
+language_directory p xs =
+    ap (directory_to (key_at levels.Languages) (size_at levels.Languages) 0 p) (alone xs) ∙ grind (arith, total_map, entries_map)
 
 pub no_language_names : (xs : List Leaf) → names_total levels.Languages (runs_of levels.Languages xs) ≡ 0
-no_language_names xs =
-    ap (names_total levels.Languages) (alone xs) ∙ total_map (λ r. name_size (key_at levels.Languages r)) (λ x. (x, [])) xs ∙ total_no_names xs
+no_language_names xs = simp (alone xs, total_map (λ r. name_size (key_at levels.Languages r)) (λ x. (x, [])) xs, total_no_names xs)
 
 pub language_parts : (xs : List Leaf) → parts_total levels.Languages (runs_of levels.Languages xs) ≡ 16 * length xs
 language_parts xs = ap (parts_total levels.Languages) (alone xs) ∙ total_map (size_at levels.Languages) (λ x. (x, [])) xs ∙ total_16 xs

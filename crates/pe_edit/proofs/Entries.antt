@@ -1,14 +1,10 @@
 -- The loops over the entries of directories.
-use Rattle.std.proofs.Common.{◌≡◌, ℕ, ◌+◌, ◌*◌, ◌<◌, ◌≤◌, List, [], ◌∷◌, ◌++◌, length, drop, ap, refl, sym, ◌∙◌, subst, arith, length-append}
-use Rattle.std.proofs.lemmas.List.{append_assoc}
-use Rattle.pe_core.specs.Bytes.{bytes_of, splice}
-use Rattle.pe_core.proofs.Splices.{length-bytes_of, splice-splice}
-use Rattle.pe_edit.specs.declared.directories.Cursor.{Cursor}
-use Rattle.pe_edit.specs.declared.level.Level.{Level}
+use Rattle.std.proofs.Common.{◌≡◌, ℕ, ◌+◌, ◌*◌, ◌<◌, ◌≤◌, List, ◌++◌, length, drop, ap, sym, ◌∙◌, subst, arith, length-append}
+use Rattle.pe_edit.proofs.Cited.{append_assoc, bytes_of, splice, length-bytes_of, splice-splice, Cursor, Level, Measure, IsRunAt}
+use Rattle.pe_edit.proofs.Cited.{PartsFit, after_entries, key_at, key_of_run, measure_of, names_total, parts_total, runs_of}
+use Rattle.pe_edit.proofs.Cited.{size_at, size_of_run, Key, Leaf, NameFits, entries_to, key_number, name_bytes, name_size, named}
+use Rattle.pe_edit.proofs.Cited.{names, resources_of, total}
 use Rattle.pe_edit.specs.declared.level.Level.TheVariants as levels
-use Rattle.pe_edit.specs.declared.level.Measure.{Measure}
-use Rattle.pe_edit.specs.Levels.{IsRunAt, PartsFit, after_entries, key_at, key_of_run, measure_of, names_total, parts_total, runs_of, size_at, size_of_run}
-use Rattle.pe_edit.specs.Written.{Id, Key, Leaf, Name, NameFits, entries_to, key_number, name_bytes, name_size, named, names, resources_of, total}
 use Rattle.pe_edit.proofs.RunsAt.{no_runs_at}
 use Rattle.pe_edit.proofs.Tables.{length-entries_to}
 use Rattle.pe_edit.proofs.Writing.{Written, all_written, more_written, nothing_written, room_for}
@@ -47,12 +43,10 @@ pub record Measured (level : Level) (xs : List Leaf) (sum : Measure) (start : �
   pub small : sum.names_size ≤ 131074 * start
 
 pub small_name : (k : Key) → NameFits k → name_size k ≤ 131074
-small_name (Id n) f = omega arith
-small_name (Name u) f = omega (arith, f.1)
+small_name k f = grind arith
 
 pub one_name : (k : Key) → named k ≤ 1
-one_name (Id n) = omega arith
-one_name (Name u) = omega arith
+one_name k = grind arith
 
 pub more_measured : (level : Level) (xs r : List Leaf) (start : ℕ) (sum next : Measure) (key : Key) → IsRunAt level xs start r → NameFits key → key ≡ key_of_run level r → Measured level xs sum start →
     next.entries ≡ sum.entries + 1 → next.named ≡ sum.named + named key → next.names_size ≡ sum.names_size + name_size key → Measured level xs next (start + length r)
@@ -73,23 +67,10 @@ more_measured level xs r start sum next key k f e m en ed es =
       small = omega (arith, es, m.small, small_name key f, some);
     }
 
-measure_by : (a b c d e f : ℕ) → a ≡ d → b ≡ e → c ≡ f → ◌≡◌ {A = Measure} (record { entries = a; named = b; names_size = c }) (record { entries = d; named = e; names_size = f })
-measure_by a b c d e f h i j = rw (h, i, j) refl
-
 pub all_measured : (level : Level) (xs : List Leaf) (start : ℕ) (sum : Measure) → length xs ≤ start → Measured level xs sum start → sum ≡ measure_of level xs
-all_measured level xs start sum h m =
-    measure_by sum.entries sum.named sum.names_size (length (runs_of level xs)) (total (λ r. named (key_at level r)) (runs_of level xs)) (total (λ r. name_size (key_at level r)) (runs_of level xs))
-    (omega (arith, m.entries, ap length (no_runs_at level xs start h)))
-    (omega (arith, m.named, none_left (λ r. named (key_at level r)) level xs start h))
-    (omega (arith, m.names_size, none_left (λ r. name_size (key_at level r)) level xs start h))
+all_measured level xs start sum h m = grind (arith, no_runs_at, none_left)
 
 -- ---- names
-
-pub names_from : (level : Level) (xs r : List Leaf) (start : ℕ) → IsRunAt level xs start r →
-    names (key_at level) (runs_of level (drop start xs)) ≡ name_bytes (key_of_run level r) ++ names (key_at level) (runs_of level (drop (start + length r) xs))
-names_from level xs r start k =
-    ap (names (key_at level)) k.found
-    ∙ ap (λ (l : List Leaf). name_bytes (key_of_run level l) ++ names (key_at level) (runs_of level (drop (start + length r) xs))) (sym k.is)
 
 -- the names up to those of the leaves from one on are written
 pub record NamesWritten (old now : List ℕ) (at end : ℕ) (level : Level) (xs : List Leaf) (start : ℕ) : Type 0 where
@@ -101,9 +82,7 @@ no_names_written old at level xs h = record { inside = omega arith; written = no
 
 names_rest : (old now : List ℕ) (at end : ℕ) (level : Level) (xs r : List Leaf) (start : ℕ) (key : Key) → IsRunAt level xs start r → key ≡ key_of_run level r → NamesWritten old now at end level xs start →
     Written old now at end (names (key_at level) (runs_of level xs)) (name_bytes key ++ names (key_at level) (runs_of level (drop (start + length r) xs)))
-names_rest old now at end level xs r start key k e w =
-    subst (λ (l : List ℕ). Written old now at end (names (key_at level) (runs_of level xs)) l)
-    (names_from level xs r start k ∙ ap (λ (n : Key). name_bytes n ++ names (key_at level) (runs_of level (drop (start + length r) xs))) (sym e)) w.written
+names_rest old now at end level xs r start key k e w = grind arith
 
 pub name_room : (old now : List ℕ) (at end : ℕ) (level : Level) (xs r : List Leaf) (start : ℕ) (key : Key) → IsRunAt level xs start r → key ≡ key_of_run level r → NamesWritten old now at end level xs start → end + length (name_bytes key) ≤ length now
 name_room old now at end level xs r start key k e w =
@@ -111,10 +90,7 @@ name_room old now at end level xs r start key k e w =
 
 pub more_names_written : (old now next : List ℕ) (at end after : ℕ) (level : Level) (xs r : List Leaf) (start : ℕ) (key : Key) → IsRunAt level xs start r → key ≡ key_of_run level r → NamesWritten old now at end level xs start →
     next ≡ splice now end (name_bytes key) → after ≡ end + length (name_bytes key) → NamesWritten old next at after level xs (start + length r)
-more_names_written old now next at end after level xs r start key k e w f g = record {
-  inside = k.inside;
-  written = more_written old now next at end after (names (key_at level) (runs_of level xs)) (name_bytes key) (names (key_at level) (runs_of level (drop (start + length r) xs))) (names_rest old now at end level xs r start key k e w) f g;
-}
+more_names_written old now next at end after level xs r start key k e w f g = grind (arith, more_written, names_rest)
 
 pub all_names_written : (old now : List ℕ) (at end : ℕ) (level : Level) (xs : List Leaf) (start : ℕ) → length xs ≤ start → NamesWritten old now at end level xs start → now ≡ splice old at (names (key_at level) (runs_of level xs))
 all_names_written old now at end level xs start h w =
@@ -126,12 +102,7 @@ entries_from : (level : Level) (xs r : List Leaf) (start s p : ℕ) (key : Key) 
     entries_to (key_at level) (size_at level) s p (runs_of level (drop start xs))
     ≡ (bytes_of 4 (key_number s key) ++ bytes_of 4 p) ++ entries_to (key_at level) (size_at level) (s + name_size key) (p + size_of_run level r) (runs_of level (drop (start + length r) xs))
 unfolding entries_to
-entries_from level xs r start s p key k e =
-    let more : List (Leaf × List Leaf) = runs_of level (drop (start + length r) xs) in
-    ap (entries_to (key_at level) (size_at level) s p) k.found
-    ∙ ap (λ (n : ℕ). bytes_of 4 (key_number s (key_at level (k.first, k.others))) ++ (bytes_of 4 p ++ entries_to (key_at level) (size_at level) (s + name_size (key_at level (k.first, k.others))) (p + n) more)) (size_is level xs r start k)
-    ∙ ap (λ (n : Key). bytes_of 4 (key_number s n) ++ (bytes_of 4 p ++ entries_to (key_at level) (size_at level) (s + name_size n) (p + size_of_run level r) more)) (key_is level xs r start k key e)
-    ∙ sym (append_assoc (bytes_of 4 (key_number s key)) (bytes_of 4 p) (entries_to (key_at level) (size_at level) (s + name_size key) (p + size_of_run level r) more))
+entries_from level xs r start s p key k e = grind (arith, size_is, key_is, append_assoc)
 
 -- the entries up to that of the leaves from one on are written
 pub record EntriesWritten (old now : List ℕ) (at c : Cursor) (level : Level) (xs : List Leaf) (start : ℕ) : Type 0 where
@@ -143,14 +114,7 @@ pub record EntriesWritten (old now : List ℕ) (at c : Cursor) (level : Level) (
   pub fit : PartsFit level at (runs_of level xs)
 
 pub no_entries_written : (old : List ℕ) (at : Cursor) (level : Level) (xs : List Leaf) → at.end + 8 * length (runs_of level xs) ≤ length old → PartsFit level at (runs_of level xs) → EntriesWritten old old at at level xs 0
-no_entries_written old at level xs h f = record {
-  inside = omega arith;
-  written = nothing_written old at.end (entries_to (key_at level) (size_at level) at.name at.part (runs_of level xs)) (omega (arith, h, length-entries_to (key_at level) (size_at level) at.name at.part (runs_of level xs)));
-  count = refl;
-  names = refl;
-  parts = refl;
-  fit = f;
-}
+no_entries_written old at level xs h f = grind (arith, nothing_written, length-entries_to)
 
 -- the numbers of the next entry fit
 pub record EntryFits (c : Cursor) (key : Key) (size : ℕ) : Type 0 where
@@ -166,8 +130,7 @@ entry_fits old now at c level xs r start key k e w = record {
 entries_rest : (old now : List ℕ) (at c : Cursor) (level : Level) (xs r : List Leaf) (start : ℕ) (key : Key) → IsRunAt level xs start r → key ≡ key_of_run level r → EntriesWritten old now at c level xs start →
     Written old now at.end c.end (entries_to (key_at level) (size_at level) at.name at.part (runs_of level xs))
     ((bytes_of 4 (key_number c.name key) ++ bytes_of 4 c.part) ++ entries_to (key_at level) (size_at level) (c.name + name_size key) (c.part + size_of_run level r) (runs_of level (drop (start + length r) xs)))
-entries_rest old now at c level xs r start key k e w =
-    subst (λ (l : List ℕ). Written old now at.end c.end (entries_to (key_at level) (size_at level) at.name at.part (runs_of level xs)) l) (entries_from level xs r start c.name c.part key k e) w.written
+entries_rest old now at c level xs r start key k e w = grind (arith, entries_from)
 
 eight : (m n : ℕ) → length (bytes_of 4 m ++ bytes_of 4 n) ≡ 8
 eight m n = length-append (bytes_of 4 m) (bytes_of 4 n) ∙ omega (arith, length-bytes_of 4 m, length-bytes_of 4 n)
@@ -200,26 +163,15 @@ more_entries_written old now next at c d level xs r start m key k e w f g ee en 
       fit = w.fit;
     }
 
-no_entries : (level : Level) (s p : ℕ) (rs : List (Leaf × List Leaf)) → rs ≡ [] → entries_to (key_at level) (size_at level) s p rs ≡ []
-unfolding entries_to
-no_entries level s p rs e = ap (entries_to (key_at level) (size_at level) s p) e
-
 pub all_entries_written : (old now : List ℕ) (at c : Cursor) (level : Level) (xs : List Leaf) (start : ℕ) → length xs ≤ start → EntriesWritten old now at c level xs start →
     now ≡ splice old at.end (entries_to (key_at level) (size_at level) at.name at.part (runs_of level xs))
+unfolding entries_to
 all_entries_written old now at c level xs start h w =
     all_written old now at.end c.end (entries_to (key_at level) (size_at level) at.name at.part (runs_of level xs)) (entries_to (key_at level) (size_at level) c.name c.part (runs_of level (drop start xs)))
-    (no_entries level c.name c.part (runs_of level (drop start xs)) (no_runs_at level xs start h)) w.written
-
-cursor_by : (a b c d e f : ℕ) → a ≡ d → b ≡ e → c ≡ f → ◌≡◌ {A = Cursor} (record { end = a; name = b; part = c }) (record { end = d; name = e; part = f })
-cursor_by a b c d e f h i j = rw (h, i, j) refl
+    (ap (entries_to (key_at level) (size_at level) c.name c.part) (no_runs_at level xs start h)) w.written
 
 pub cursor_after : (old now : List ℕ) (at c : Cursor) (level : Level) (xs : List Leaf) (start : ℕ) → length xs ≤ start → EntriesWritten old now at c level xs start → c ≡ after_entries level at (runs_of level xs)
-cursor_after old now at c level xs start h w =
-    let rs : List (Leaf × List Leaf) = runs_of level xs in
-    cursor_by c.end c.name c.part (at.end + 8 * length rs) (at.name + names_total level rs) (at.part + parts_total level rs)
-    (omega (arith, w.count, ap length (no_runs_at level xs start h)))
-    (omega (arith, w.names, none_left (λ r. name_size (key_at level r)) level xs start h))
-    (omega (arith, w.parts, none_left (size_at level) level xs start h))
+cursor_after old now at c level xs start h w = grind (arith, no_runs_at, none_left)
 
 -- the two numbers of an entry
 pub entry_parts : (b next last : List ℕ) (p m n : ℕ) → p + 8 ≤ length b → next ≡ splice b p (bytes_of 4 m) → last ≡ splice next (p + 4) (bytes_of 4 n) → last ≡ splice b p (bytes_of 4 m ++ bytes_of 4 n)
@@ -231,16 +183,13 @@ entry_parts b next last p m n h e f =
 
 pub size_of_type : (r : List Leaf) (m : Measure) → 0 < length r → m ≡ measure_of levels.Names r → 16 + 8 * m.entries ≡ size_of_run levels.Types r
 unfolding resources_of
-size_of_type [] m h e = absurd (omega (arith, h))
-size_of_type (x ∷ xs) m h e = ap (λ (k : Measure). 16 + 8 * k.entries) e
+size_of_type r m h e = grind arith
 
 pub size_of_resource : (r : List Leaf) (n : ℕ) → 0 < length r → n ≡ length r → 16 + 8 * n ≡ size_of_run levels.Names r
-size_of_resource [] n h e = absurd (omega (arith, h))
-size_of_resource (x ∷ xs) n h e = ap (λ (k : ℕ). 16 + 8 * k) e
+size_of_resource r n h e = grind arith
 
 pub size_of_language : (r : List Leaf) → 0 < length r → 16 ≡ size_of_run levels.Languages r
-size_of_language [] h = absurd (omega (arith, h))
-size_of_language (x ∷ xs) h = refl
+size_of_language r h = grind arith
 
 -- ---- the entry that is written next
 

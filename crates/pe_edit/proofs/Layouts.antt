@@ -1,13 +1,9 @@
 -- Where the parts of a section start, by what the entries of types and of resources come to.
 use Rattle.std.proofs.Common.{◌≡◌, ℕ, ◌+◌, ◌*◌, List, [], ◌∷◌, length, refl, ap, ◌∙◌, arith, length-append}
-use Rattle.std.specs.List.{flat_map}
-use Rattle.pe_core.specs.SectionMap.{rounded_up}
-use Rattle.pe_edit.specs.declared.layout.Layout.{Layout}
+use Rattle.pe_edit.proofs.Cited.{flat_map, rounded_up, Layout, Measure, measure_of, elements, Leaf, below_size, layout_of}
+use Rattle.pe_edit.proofs.Cited.{name_size, names_size, resource_size, resources_of, same_resource, total, type_key, type_size}
+use Rattle.pe_edit.proofs.Cited.{types_of}
 use Rattle.pe_edit.specs.declared.level.Level.TheVariants as levels
-use Rattle.pe_edit.specs.declared.level.Measure.{Measure}
-use Rattle.pe_edit.specs.Levels.{measure_of}
-use Rattle.pe_edit.specs.Runs.{elements}
-use Rattle.pe_edit.specs.Written.{Leaf, below_size, layout_of, name_size, names_size, resource_size, resources_of, same_resource, total, type_key, type_size, types_of}
 use Rattle.pe_edit.proofs.DirectoryLoops.{resources_are, types_are}
 use Rattle.pe_edit.proofs.Nested.{names_of, resources_in_types}
 use Rattle.pe_edit.proofs.Runs.{runs_all}
@@ -30,12 +26,9 @@ below_size_at (n ∷ ns) = omega (arith, below_size_at ns, length-append (elemen
 types_size : (xs : List Leaf) → total type_size (types_of xs) ≡ 16 * length (types_of xs) + 8 * length (resources_of xs)
 types_size xs = omega (arith, types_size_at (types_of xs), length_flat (types_of xs), ap length (resources_in_types xs))
 
-resources_all : (xs : List Leaf) → flat_map elements (resources_of xs) ≡ xs
-unfolding resources_of
-resources_all xs = runs_all same_resource xs
-
 resources_size : (xs : List Leaf) → below_size (resources_of xs) ≡ 16 * length (resources_of xs) + 8 * length xs
-resources_size xs = omega (arith, below_size_at (resources_of xs), ap length (resources_all xs))
+unfolding resources_of
+resources_size xs = omega (arith, below_size_at (resources_of xs), ap length (runs_all same_resource xs))
 
 layout_by : (a b c d e f g h i j k l m n : ℕ) → a ≡ h → b ≡ i → c ≡ j → d ≡ k → e ≡ l → f ≡ m → g ≡ n →
     ◌≡◌ {A = Layout} (record { types = a; languages = b; entries = c; type_names = d; names = e; names_end = f; contents = g }) (record { types = h; languages = i; entries = j; type_names = k; names = l; names_end = m; contents = n })

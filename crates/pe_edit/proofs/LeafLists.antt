@@ -1,13 +1,9 @@
 -- Leaves as values and as records: their number, one of them, and parts of their list.
-use Rattle.std.proofs.Common.{◌≡◌, ℕ, zero, suc, ◌<◌, ◌≤◌, List, [], ◌∷◌, length, take, drop, get_or, map, refl, ap, sym, ◌∙◌, arith}
-use Rattle.std.proofs.lemmas.List.{length-map, take-map}
-use Rattle.std.specs.Borrow.{Bor}
+use Rattle.std.proofs.Common.{◌≡◌, ℕ, zero, suc, ◌<◌, List, [], ◌∷◌, length, take, drop, get_or, map, refl, ap, sym, ◌∙◌, arith}
+use Rattle.pe_edit.proofs.Cited.{length-map, take-map, Bor, ResourceRecord, leaf_view, leaf_views, no_leaf, record_leaf, Leaf}
 use Rattle.pe_edit.specs.declared.leaf.Resource.{Resource}
 use Rattle.pe_edit.specs.declared.leaves.Leaves.{Leaves}
 use Rattle.pe_edit.specs.declared.leaves.Leaves.TheVariants as lists
-use Rattle.pe_edit.specs.declared.record.ResourceRecord.{ResourceRecord}
-use Rattle.pe_edit.specs.Views.{leaf_view, leaf_views, no_leaf, record_leaf}
-use Rattle.pe_edit.specs.Written.{Leaf}
 
 pub count_of_values : (s : Leaves) (xs : Bor (List Resource)) → s ≡ lists.Values xs → length (leaf_views s) ≡ length xs.now
 count_of_values s xs e = ap (λ (l : Leaves). length (leaf_views l)) e ∙ length-map xs.now leaf_view
@@ -33,17 +29,13 @@ drop_mapped f (suc n) [] = refl
 drop_mapped f (suc n) (x ∷ xs) = drop_mapped f n xs
 
 pub values_after : (s : Leaves) (xs ys : Bor (List Resource)) (n : ℕ) → s ≡ lists.Values xs → ys.now ≡ drop n xs.now → leaf_views (lists.Values ys) ≡ drop n (leaf_views s)
-values_after s xs ys n e f =
-    ap (λ (l : List Resource). map leaf_view l) f ∙ drop_mapped leaf_view n xs.now ∙ ap (λ (l : Leaves). drop n (leaf_views l)) (sym e)
+values_after s xs ys n e f = grind (arith, drop_mapped)
 
 pub records_after : (s : Leaves) (rs ts : Bor (List ResourceRecord)) (d : Bor (List ℕ)) (n : ℕ) → s ≡ lists.Records rs d → ts.now ≡ drop n rs.now → leaf_views (lists.Records ts d) ≡ drop n (leaf_views s)
-records_after s rs ts d n e f =
-    ap (λ (l : List ResourceRecord). map (record_leaf d.now) l) f ∙ drop_mapped (record_leaf d.now) n rs.now ∙ ap (λ (l : Leaves). drop n (leaf_views l)) (sym e)
+records_after s rs ts d n e f = grind (arith, drop_mapped)
 
 pub values_first : (s : Leaves) (xs ys : Bor (List Resource)) (n : ℕ) → s ≡ lists.Values xs → ys.now ≡ take n xs.now → leaf_views (lists.Values ys) ≡ take n (leaf_views s)
-values_first s xs ys n e f =
-    ap (λ (l : List Resource). map leaf_view l) f ∙ sym (take-map leaf_view n xs.now) ∙ ap (λ (l : Leaves). take n (leaf_views l)) (sym e)
+values_first s xs ys n e f = grind (arith, take-map)
 
 pub records_first : (s : Leaves) (rs ts : Bor (List ResourceRecord)) (d : Bor (List ℕ)) (n : ℕ) → s ≡ lists.Records rs d → ts.now ≡ take n rs.now → leaf_views (lists.Records ts d) ≡ take n (leaf_views s)
-records_first s rs ts d n e f =
-    ap (λ (l : List ResourceRecord). map (record_leaf d.now) l) f ∙ sym (take-map (record_leaf d.now) n rs.now) ∙ ap (λ (l : Leaves). take n (leaf_views l)) (sym e)
+records_first s rs ts d n e f = grind (arith, take-map)

@@ -1,20 +1,14 @@
 -- The three levels that are written are read.
-use Rattle.std.proofs.Common.{◌≡◌, ℕ, ◌+◌, ◌*◌, ◌/◌, ◌<◌, ◌≤◌, ◌&&◌, Bool, true, false, List, [], ◌∷◌, ◌++◌, length, map, Result, Ok, refl, ap, sym, ◌∙◌, subst, arith, length-append}
-use Rattle.std.specs.List.{flat_map}
-use Rattle.std.proofs.lemmas.List.{map-append}
-use Rattle.std.proofs.lemmas.Bool.{false≢true}
-use Rattle.std.proofs.lemmas.Bool.Decides.{nat_tests}
+use Rattle.std.proofs.Common.{◌≡◌, ℕ, ◌+◌, ◌*◌, ◌<◌, ◌≤◌, true, List, [], ◌∷◌, ◌++◌, length, map, Result, Ok, refl, ap, sym, ◌∙◌, subst, arith, length-append}
+use Rattle.pe_edit.proofs.Cited.{flat_map, map-append, false≢true, nat_tests, length-bytes_of, ResourceEntry, TreeRefusal, in_table}
+use Rattle.pe_edit.proofs.Cited.{table_below, leaf_of, leaves_of_name, leaves_of_type, tree_leaves, entries, elements, Key, Leaf}
+use Rattle.pe_edit.proofs.Cited.{Each, total, name_size, name_bytes, names, key_number, KeyFits, LeafFits, padded_size, entries_to}
+use Rattle.pe_edit.proofs.Cited.{directory_to, type_key, name_key, language_key, resources_of, type_size, resource_size, below_size}
+use Rattle.pe_edit.proofs.Cited.{names_size, entry_size, type_tables, resource_tables, key_eq, same_type, same_resource}
+use Rattle.pe_edit.proofs.Cited.{LeafRefusal, read_key, read_item, both}
 use Rattle.std.proofs.lemmas.Slice.Eq.{bytes_eq-Decides}
-use Rattle.pe_core.specs.Bytes.{bytes_of}
-use Rattle.pe_core.proofs.Splices.{length-bytes_of}
-use Rattle.pe_resource.specs.declared.entry.ResourceEntry.{ResourceEntry}
-use Rattle.pe_resource.specs.Leaves.{TreeRefusal, in_table, table_below, leaf_of, leaves_of_name, leaves_of_type, tree_leaves}
-use Rattle.pe_resource.specs.ResourceEntries.{entries}
-use Rattle.pe_edit.specs.Runs.{elements}
-use Rattle.pe_edit.specs.Written.{Key, Id, Name, Leaf, Each, total, name_size, name_bytes, names, key_number, KeyFits, LeafFits, padded_size, entries_to, directory_to, type_key, name_key, language_key, resources_of, type_size, resource_size, below_size, names_size, entry_size, type_tables, resource_tables, key_eq, same_type, same_resource}
-use Rattle.pe_edit.specs.Reread.{LeafRefusal, read_key, read_item}
-use Rattle.pe_edit.proofs.Nested.{names_of, all_names, language_tables}
-use Rattle.pe_edit.proofs.Runs.{EachHas, RunsAlike, runs_all, runs_alike, count_of_runs, some_run, each_left, each_right, each_weaker, each_first}
+use Rattle.pe_edit.proofs.Nested.{names_of, all_names, language_tables, names_all}
+use Rattle.pe_edit.proofs.Runs.{EachHas, RunsAlike, runs_alike, count_of_runs, some_run, each_left, each_right, each_weaker, each_first}
 use Rattle.pe_edit.proofs.Stands.{Stands, left, right}
 use Rattle.pe_edit.proofs.Tables.{entry_list, entries_read, entries_fit, length-directory_to, below}
 use Rattle.pe_edit.proofs.Reading.{DataStand, data_left, data_right, leaf_read, key_read}
@@ -73,8 +67,7 @@ done_append : (xs ys : List Leaf) → done (xs ++ ys) ≡ done xs ++ done ys
 done_append xs ys = map-append (λ x. Ok x) xs ys
 
 pub name_length : (k : Key) → length (name_bytes k) ≡ name_size k
-name_length (Id n) = refl
-name_length (Name u) = length-append (bytes_of 2 (length u / 2)) u ∙ omega (arith, length-bytes_of 2 (length u / 2))
+name_length k = grind (arith, length-append, length-bytes_of)
 
 -- what is known of names that are read
 pub record NamesStand (b : List ℕ) (rva s q e a : ℕ) (rs : List (Leaf × List Leaf)) : Type 0 where
@@ -160,10 +153,6 @@ length-resource_tables p (n ∷ ns) =
     let x : List ℕ = directory_to language_key entry_size 0 p (elements n) in
     length-append x (resource_tables (p + 16 * length (elements n)) ns) ∙ omega (arith, length-directory_to language_key entry_size 0 p (elements n), length-resource_tables (p + 16 * length (elements n)) ns)
 
-pub names_all : (t : Leaf × List Leaf) → flat_map elements (names_of t) ≡ elements t
-unfolding resources_of
-names_all t = runs_all same_resource (elements t)
-
 pub more_types : (b : List ℕ) (rva s q sn q3 e a : ℕ) (t : Leaf × List Leaf) (ts : List (Leaf × List Leaf)) → TypesStand b rva s q sn q3 e a (t ∷ ts) →
     TypesStand b rva (s + name_size (type_key t)) (q + type_size t) (sn + names_size (names_of t)) (q3 + below_size (names_of t)) (e + 16 * length (elements t)) (a + total padded_size (elements t)) ts
 unfolding total type_tables language_tables all_names
@@ -187,18 +176,11 @@ more_types b rva s q sn q3 e a t ts k =
     }
 
 pub same_keys : (x y : Key) → key_eq x y ≡ true → x ≡ y
-same_keys (Id m) (Id n) h = ap (λ (k : ℕ). Id k) (grind (arith, nat_tests, h))
-same_keys (Id m) (Name v) h = absurd (false≢true h)
-same_keys (Name u) (Id n) h = absurd (false≢true h)
-same_keys (Name u) (Name v) h = ap (λ (l : List ℕ). Name l) ((bytes_eq-Decides u v).0 h)
-
-both_true : (a b : Bool) → (a && b) ≡ true → b ≡ true
-both_true true b h = h
-both_true false b h = absurd (false≢true h)
+same_keys x y h = grind (arith, nat_tests, false≢true, bytes_eq-Decides)
 
 pub names_alike : (t : Leaf × List Leaf) → RunsAlike (λ x. x.name) (names_of t)
 unfolding resources_of
-names_alike t = runs_alike (λ x. x.name) same_resource (elements t) (λ x y h. same_keys x.name y.name (both_true (same_type x y) (key_eq x.name y.name) h))
+names_alike t = runs_alike (λ x. x.name) same_resource (elements t) (λ x y h. same_keys x.name y.name (both (same_type x y) (key_eq x.name y.name) h).1)
 
 pub some_name : (t : Leaf × List Leaf) → 0 < length (names_of t)
 unfolding resources_of
@@ -212,21 +194,7 @@ few_names t = count_of_runs same_resource (elements t)
 pub names_stand : (b : List ℕ) (rva s q sn q3 e a : ℕ) (t : Leaf × List Leaf) (ts : List (Leaf × List Leaf)) → TypesStand b rva s q sn q3 e a (t ∷ ts) → NamesStand b rva sn q3 e a (names_of t)
 unfolding total language_tables all_names
 names_stand b rva s q sn q3 e a t ts k =
-    let xs : List Leaf = elements t in
-    let ys : List Leaf = flat_map elements ts in
-    let all : length (flat_map elements (t ∷ ts)) ≡ length xs + length ys = length-append xs ys in
-    let same : flat_map elements (names_of t) ≡ xs = names_all t in
-    record {
-      strings = left b sn (names name_key (names_of t)) (all_names ts) k.strings;
-      tables = left b q3 (resource_tables e (names_of t)) (language_tables (e + 16 * length xs) ts) k.languages;
-      content = subst (λ (l : List Leaf). DataStand b rva e a l) (sym same) (data_left b rva e a xs ys k.content);
-      alike = names_alike t;
-      fit = subst (λ (l : List Leaf). Each LeafFits l) (sym same) (each_left LeafFits xs ys k.fit);
-      few = rw same (omega (arith, k.few, all));
-      strings_end = omega (arith, k.strings_end);
-      tables_end = omega (arith, k.languages_end);
-      entries_end = rw same (omega (arith, k.entries_end, all));
-    }
+    grind (arith, length-append, names_of, names_all, left, all_names, language_tables, data_left, names_alike, each_left)
 
 type_read : (b : List ℕ) (rva q sn q3 e a : ℕ) (te : ResourceEntry) (t : Leaf × List Leaf) →
     read_key b te ≡ Ok (type_key t) → te.offset_to_data_or_directory ≡ 2147483648 + q → q < 2147483648 → Stands b q (directory_to name_key resource_size sn (2147483648 + q3) (names_of t)) →

@@ -1,3 +1,4 @@
+mod Cited
 pub mod Runs
 pub mod Nested
 pub mod Stands

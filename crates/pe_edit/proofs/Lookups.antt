@@ -1,20 +1,14 @@
 -- A leaf that is looked for in a section is the first with its keys of the runs.
-use Rattle.std.proofs.Common.{◌≡◌, ℕ, ◌+◌, ◌*◌, ◌%◌, ◌^◌, ◌<◌, ◌==◌, Bool, true, false, List, [], ◌∷◌, length, cond, Option, Some, None, Result, Ok, refl, ap, sym, ◌∙◌, subst, arith, length-append, if◌then◌else◌}
-use Rattle.std.specs.List.{find, flat_map}
-use Rattle.std.proofs.lemmas.Bool.{false≢true}
-use Rattle.std.proofs.lemmas.Bool.Decides.{nat_tests}
-use Rattle.pe_core.specs.Bytes.{holds, le, range}
-use Rattle.pe_core.specs.Refusals.{Short, outcome, ◌>>=◌}
-use Rattle.pe_resource.specs.declared.entry.ResourceEntry.{ResourceEntry}
-use Rattle.pe_resource.specs.Leaves.{TreeRefusal, leaf_of, name_units, table_below}
-use Rattle.pe_resource.specs.ResourceEntries.{entries, has_id, has_name, name_offset, with_id}
-use Rattle.pe_edit.specs.declared.layout.Layout.{Layout}
-use Rattle.pe_edit.specs.Found.{as_read, entries_below, entries_of, found_language, found_leaf, found_name, found_type, has_key, is_key, with_key}
-use Rattle.pe_edit.specs.Reread.{LeafRefusal, key_by, read_item, read_key}
-use Rattle.pe_edit.specs.Runs.{elements}
-use Rattle.pe_edit.specs.Written.{Each, Fits, Id, Key, KeyFits, Leaf, LeafFits, directory_to, entries_to, entry_size, key_eq, key_number, language_key, layout_of, name_bytes, name_key, name_size, names, padded_size, resource_size, resource_tables, section, section_at, section_length, total, type_key, type_size, type_tables, types_of}
-use Rattle.pe_edit.proofs.Levels.{NamesStand, TypesStand, few_names, more_names, more_types, names_all, names_stand, some_name, total_16, total_no_names}
-use Rattle.pe_edit.proofs.Nested.{names_of}
+use Rattle.std.proofs.Common.{◌≡◌, ℕ, ◌+◌, ◌*◌, ◌<◌, ◌==◌, Bool, List, [], ◌∷◌, length, cond, Option, Some, None, Result, Ok, refl, ap, sym, ◌∙◌, subst, arith, length-append}
+use Rattle.pe_edit.proofs.Cited.{find, flat_map, false≢true, nat_tests, ResourceEntry, TreeRefusal, leaf_of, name_units}
+use Rattle.pe_edit.proofs.Cited.{table_below, entries, has_id, has_name, with_id, Layout, as_read, entries_below, entries_of}
+use Rattle.pe_edit.proofs.Cited.{found_language, found_leaf, found_name, found_type, has_key, is_key, with_key, read_item, read_key}
+use Rattle.pe_edit.proofs.Cited.{elements, Each, Fits, Id, Key, KeyFits, Leaf, LeafFits, directory_to, entries_to, entry_size}
+use Rattle.pe_edit.proofs.Cited.{key_eq, key_number, language_key, layout_of, name_bytes, name_key, name_size, names, padded_size}
+use Rattle.pe_edit.proofs.Cited.{resource_size, resource_tables, section, section_at, section_length, total, type_key, type_size}
+use Rattle.pe_edit.proofs.Cited.{type_tables, types_of}
+use Rattle.pe_edit.proofs.Levels.{NamesStand, TypesStand, few_names, more_names, more_types, names_stand, some_name, total_16, total_no_names}
+use Rattle.pe_edit.proofs.Nested.{names_of, names_all}
 use Rattle.pe_edit.proofs.Reading.{DataStand, data_left, key_read, leaf_read}
 use Rattle.pe_edit.proofs.Runs.{EachHas, each_first, each_left, each_right, each_weaker}
 use Rattle.pe_edit.proofs.SectionRead.{first_read, is_layout, parts_stand, types_stand}
@@ -38,16 +32,7 @@ in_types t n l (r ∷ rs) = cond (key_eq (type_key r) t) (in_names n l (names_of
 
 language_at : (b : List ℕ) (rva : ℕ) (t n e : ResourceEntry) (u v : Bool) (f : Option ResourceEntry) (x : Leaf) (g : Option Leaf) → u ≡ v → read_item b rva (leaf_of b t n e) ≡ Ok x → found_language b rva t n f ≡ as_read g →
     found_language b rva t n (cond u (Some e) f) ≡ as_read (cond v (Some x) g)
-language_at b rva t n e true true f x g h i j = ap (λ (y : Result Leaf LeafRefusal). Some y) i
-language_at b rva t n e false false f x g h i j = j
-language_at b rva t n e true false f x g h i j = absurd (false≢true (sym h))
-language_at b rva t n e false true f x g h i j = absurd (false≢true h)
-
-id_at : (m p l : ℕ) → m < 65536 → has_id l (record { name_or_id = m; offset_to_data_or_directory = p }) ≡ (m == l)
-id_at m p l h =
-    let no : has_name (record { name_or_id = m; offset_to_data_or_directory = p }) ≡ false = grind (arith, nat_tests, h) in
-    let same : m % 2 ^ 16 ≡ m = omega (arith, h) in
-    rw (no, same) refl
+language_at b rva t n e u v f x g h i j = grind (arith, false≢true)
 
 languages_found : (b : List ℕ) (rva p a s l : ℕ) (t n : ResourceEntry) (kt kn : Key) (xs : List Leaf) →
     read_key b t ≡ Ok kt → read_key b n ≡ Ok kn → EachHas (λ x. x.resource_type) kt xs → EachHas (λ x. x.name) kn xs → Each LeafFits xs →
@@ -58,7 +43,8 @@ languages_found b rva p a s l t n kt kn (x ∷ xs) h i et en f low d =
     let e : ResourceEntry = record { name_or_id = x.language; offset_to_data_or_directory = p } in
     let one : read_item b rva (leaf_of b t n e) ≡ Ok x =
     leaf_read b rva p a x t n e (h ∙ ap (λ (k : Key). Ok k) (sym et.0)) (i ∙ ap (λ (k : Key). Ok k) (sym en.0)) refl refl (omega (arith, low)) f.0.language d.0 in
-    language_at b rva t n e (has_id l e) (x.language == l) (with_id l (entry_list language_key entry_size (s + 0) (p + 16) xs)) x (in_languages l xs) (id_at x.language p l f.0.language) one
+    language_at b rva t n e (has_id l e) (x.language == l) (with_id l (entry_list language_key entry_size (s + 0) (p + 16) xs)) x
+    (in_languages l xs) (grind (arith, nat_tests, f.0.language)) one
     (languages_found b rva (p + 16) (a + padded_size x) (s + 0) l t n kt kn xs h i et.1 en.1 f.1 (omega (arith, low)) d.1)
 
 -- ---- names
@@ -79,10 +65,7 @@ name_found b rva q e a s l t n kt r h i is low et en f few end stands d =
 
 name_at : (b : List ℕ) (rva l : ℕ) (t n : ResourceEntry) (u v : Bool) (f : Option ResourceEntry) (x g : Option Leaf) → u ≡ v → found_language b rva t n (with_id l (entries_below b n)) ≡ as_read x → found_name b rva l t f ≡ as_read g →
     found_name b rva l t (cond u (Some n) f) ≡ as_read (cond v x g)
-name_at b rva l t n true true f x g h i j = i
-name_at b rva l t n false false f x g h i j = j
-name_at b rva l t n true false f x g h i j = absurd (false≢true (sym h))
-name_at b rva l t n false true f x g h i j = absurd (false≢true h)
+name_at b rva l t n u v f x g h i j = grind (arith, false≢true)
 
 names_found : (b : List ℕ) (rva s p q e a l : ℕ) (t : ResourceEntry) (kt name : Key) (rs : List (Leaf × List Leaf)) →
     read_key b t ≡ Ok kt → p ≡ 2147483648 + q → EachHas (λ x. x.resource_type) kt (flat_map elements rs) → NamesStand b rva s q e a rs →
@@ -126,10 +109,7 @@ type_found b rva q sn q3 e a l name te t key is low stands et k =
 
 type_at : (b : List ℕ) (rva l : ℕ) (name : Key) (t : ResourceEntry) (u v : Bool) (f : Option ResourceEntry) (x g : Option Leaf) → u ≡ v → found_name b rva l t (with_key b name (entries_below b t)) ≡ as_read x → found_type b rva name l f ≡ as_read g →
     found_type b rva name l (cond u (Some t) f) ≡ as_read (cond v x g)
-type_at b rva l name t true true f x g h i j = i
-type_at b rva l name t false false f x g h i j = j
-type_at b rva l name t true false f x g h i j = absurd (false≢true (sym h))
-type_at b rva l name t false true f x g h i j = absurd (false≢true h)
+type_at b rva l name t u v f x g h i j = grind (arith, false≢true)
 
 types_found : (b : List ℕ) (rva s p q sn q3 e a l : ℕ) (kind name : Key) (ts : List (Leaf × List Leaf)) → p ≡ 2147483648 + q → TypesStand b rva s q sn q3 e a ts →
     found_type b rva name l (with_key b kind (entry_list type_key type_size s p ts)) ≡ as_read (in_types kind name l ts)
@@ -160,24 +140,10 @@ found_in_runs rva xs kind name l f =
 
 -- ---- ids
 
-no_id_at : (d : Bool) (n : ℕ) (u : List ℕ) (e : ResourceEntry) → is_key (Id n) (outcome ((d, Short) ∷ []) (Some u) >>= λ v. Ok (key_by e v)) ≡ false
-no_id_at true n u e = refl
-no_id_at false n u e = refl
-
-no_id : (t a : Bool) (c : ℕ → Bool) (m n : ℕ) (r : ℕ → List ℕ) (e : ResourceEntry) → t ≡ true →
-    is_key (Id n) ((if t then (outcome ((a, Short) ∷ []) m >>= λ k. outcome ((c k, Short) ∷ []) (Some (r k))) else Ok None) >>= λ v. Ok (key_by e v)) ≡ false
-no_id true true c m n r e h = no_id_at (c m) n (r m) e
-no_id true false c m n r e h = refl
-no_id false a c m n r e h = absurd (false≢true h)
-
 id_key_at : (b : List ℕ) (n : ℕ) (e : ResourceEntry) (t : Bool) → has_name e ≡ t → has_key b (Id n) e ≡ has_id n e
 unfolding name_units
-id_key_at b n e true h =
-    no_id (has_name e) (holds b (name_offset e) 2) (λ k. holds b (name_offset e + 2) (2 * k)) (le b (name_offset e) 2) n (λ k. range b (name_offset e + 2) (2 * k)) e h
-    ∙ sym (rw h refl)
-id_key_at b n e false h = rw h refl
+id_key_at b n e t h = grind (arith, false≢true)
 
 -- a search by an id is that of pe_resource
 pub by_id : (b : List ℕ) (n : ℕ) (es : List ResourceEntry) → with_key b (Id n) es ≡ with_id n es
-by_id b n [] = refl
-by_id b n (e ∷ es) = ap (λ (t : Bool). cond t (Some e) (with_key b (Id n) es)) (id_key_at b n e (has_name e) refl) ∙ ap (cond (has_id n e) (Some e)) (by_id b n es)
+by_id b n es = grind (arith, id_key_at)

@@ -1,42 +1,19 @@
 -- The resources of each type, one type after the other, are the resources.
-use Rattle.std.proofs.Common.{◌≡◌, ℕ, ◌+◌, ◌-◌, ◌*◌, ◌<◌, ◌&&◌, Bool, true, false, List, [], ◌∷◌, ◌++◌, length, take, drop, if◌then◌else◌, refl, ap, sym, ◌∙◌, arith, length-append}
-use Rattle.std.specs.List.{flat_map}
+use Rattle.std.proofs.Common.{◌≡◌, ℕ, ◌+◌, ◌-◌, ◌*◌, ◌<◌, Bool, false, List, [], ◌∷◌, ◌++◌, length, take, drop, refl, ap, sym, ◌∙◌, arith, length-append}
+use Rattle.pe_edit.proofs.Cited.{flat_map, append_assoc, elements, in_front, runs, run_length, Leaf, total, names, name_key}
+use Rattle.pe_edit.proofs.Cited.{types_of, resources_of, same_type, same_resource, resource_tables, directory_to, language_key}
+use Rattle.pe_edit.proofs.Cited.{entry_size, key_eq, and_left}
 use Rattle.std.proofs.lemmas.Grind.{flat_map-append}
-use Rattle.std.proofs.lemmas.Bool.{false≢true}
-use Rattle.std.proofs.lemmas.List.{append_assoc}
-use Rattle.pe_edit.specs.Runs.{elements, in_front, runs, run_length}
-use Rattle.pe_edit.specs.Written.{Leaf, total, names, name_key, name_bytes, types_of, resources_of, same_type, same_resource, resource_tables, directory_to, language_key, entry_size, key_eq}
 use Rattle.pe_edit.proofs.Runs.{first_run, some_run, runs_all}
 
 -- ---- runs in runs
 
-front_append_at : {X : Type 0} (test : Bool) (x : X) (r : X × List X) (rs zs : List (X × List X)) →
-    (if test then (x, r.0 ∷ r.1) ∷ rs else (x, []) ∷ r ∷ rs) ++ zs ≡ (if test then (x, r.0 ∷ r.1) ∷ (rs ++ zs) else (x, []) ∷ r ∷ (rs ++ zs))
-front_append_at true x r rs zs = refl
-front_append_at false x r rs zs = refl
-
 front_append : {X : Type 0} (alike : X → X → Bool) (x : X) (rs zs : List (X × List X)) → 0 < length rs → in_front alike x rs ++ zs ≡ in_front alike x (rs ++ zs)
-front_append alike x [] zs h = absurd (omega (arith, h))
-front_append alike x (r ∷ rs) zs h = front_append_at (alike x r.0) x r rs zs
+front_append alike x rs zs h = grind arith
 
 -- an element that is not alike the next is a run of its own
 alone : {X : Type 0} (alike : X → X → Bool) (x y : X) (ys : List X) → alike x y ≡ false → in_front alike x (runs alike (y ∷ ys)) ≡ (x, []) ∷ runs alike (y ∷ ys)
-alone {X} alike x y ys h =
-    let k : ℕ = run_length alike (y ∷ ys) in
-    let r : List X = take (k - 1) ys in
-    let rest : List (X × List X) = runs alike (drop k (y ∷ ys)) in
-    let e : runs alike (y ∷ ys) ≡ (y, r) ∷ rest = first_run alike y ys in
-    ap (in_front alike x) e
-    ∙ ap (λ (t : Bool). if t then (x, y ∷ r) ∷ rest else (x, []) ∷ (y, r) ∷ rest) h
-    ∙ ap (λ (l : List (X × List X)). (x, []) ∷ l) (sym e)
-
-nested_at : {X : Type 0} (fine : X → X → Bool) (test : Bool) (x y : X) (r ys : List X) (rest : List (X × List X)) → (test ≡ false → fine x y ≡ false) →
-    runs fine (y ∷ r) ++ flat_map (λ r. runs fine (elements r)) rest ≡ runs fine (y ∷ ys) →
-    flat_map (λ r. runs fine (elements r)) (if test then (x, y ∷ r) ∷ rest else (x, []) ∷ (y, r) ∷ rest) ≡ in_front fine x (runs fine (y ∷ ys))
-unfolding runs
-nested_at fine true x y r ys rest finer e =
-    front_append fine x (runs fine (y ∷ r)) (flat_map (λ r. runs fine (elements r)) rest) (some_run fine y r) ∙ ap (in_front fine x) e
-nested_at {X} fine false x y r ys rest finer e = ap (λ (l : List (X × List X)). (x, []) ∷ l) e ∙ sym (alone fine x y ys (finer refl))
+alone alike x y ys h = grind (arith, first_run)
 
 pub nested : {X : Type 0} (alike fine : X → X → Bool) (xs : List X) → ((x y : X) → alike x y ≡ false → fine x y ≡ false) →
     flat_map (λ r. runs fine (elements r)) (runs alike xs) ≡ runs fine xs
@@ -51,20 +28,16 @@ nested {X} alike fine (x ∷ y ∷ ys) finer =
     let below : runs fine (y ∷ r) ++ flat_map (λ r. runs fine (elements r)) rest ≡ runs fine (y ∷ ys) =
     ap (flat_map (λ r. runs fine (elements r))) (sym e) ∙ nested alike fine (y ∷ ys) finer in
     ap (λ (l : List (X × List X)). flat_map (λ r. runs fine (elements r)) (in_front alike x l)) e
-    ∙ nested_at fine (alike x y) x y r ys rest (finer x y) below
+    ∙ grind (arith, front_append, some_run, alone, finer x y)
 
 -- ---- resources of types
 
 abbrev pub names_of : Leaf × List Leaf → List (Leaf × List Leaf)
 names_of t = resources_of (elements t)
 
-other_type : (a b : Bool) → a ≡ false → (a && b) ≡ false
-other_type true b h = absurd (false≢true (sym h))
-other_type false b h = refl
-
 pub resources_in_types : (xs : List Leaf) → flat_map names_of (types_of xs) ≡ resources_of xs
 unfolding types_of resources_of
-resources_in_types xs = nested same_type same_resource xs (λ x y h. other_type (same_type x y) (key_eq x.name y.name) h)
+resources_in_types xs = nested same_type same_resource xs (λ x y h. and_left (same_type x y) (key_eq x.name y.name) h)
 
 -- the names of all resources, and the directories of their languages, type by type
 unfoldable pub all_names : List (Leaf × List Leaf) → List ℕ
@@ -77,9 +50,7 @@ language_tables p (t ∷ ts) = resource_tables p (names_of t) ++ language_tables
 names_flat : (ts : List (Leaf × List Leaf)) → names name_key (flat_map names_of ts) ≡ all_names ts
 unfolding all_names
 names_flat [] = refl
-names_flat (t ∷ ts) =
-    flat_map-append (λ n. name_bytes (name_key n)) (names_of t) (flat_map names_of ts)
-    ∙ ap (λ (l : List ℕ). names name_key (names_of t) ++ l) (names_flat ts)
+names_flat (t ∷ ts) = grind (arith, flat_map-append, names_flat ts)
 
 pub names_in_types : (xs : List Leaf) → all_names (types_of xs) ≡ names name_key (resources_of xs)
 names_in_types xs = sym (names_flat (types_of xs)) ∙ ap (names name_key) (resources_in_types xs)
@@ -107,7 +78,7 @@ tables_append p (n ∷ ns) ms =
     ∙ ap (λ (k : ℕ). d ++ (resource_tables q ns ++ resource_tables k ms)) (omega (arith, length-append (elements n) (flat_map elements ns)))
     ∙ sym (append_assoc d (resource_tables q ns) (resource_tables (p + 16 * length (flat_map elements (n ∷ ns))) ms))
 
-names_all : (t : Leaf × List Leaf) → flat_map elements (names_of t) ≡ elements t
+pub names_all : (t : Leaf × List Leaf) → flat_map elements (names_of t) ≡ elements t
 unfolding resources_of
 names_all t = runs_all same_resource (elements t)
 
@@ -115,9 +86,7 @@ tables_flat : (p : ℕ) (ts : List (Leaf × List Leaf)) → resource_tables p (f
 unfolding language_tables resource_tables
 tables_flat p [] = refl
 tables_flat p (t ∷ ts) =
-    tables_append p (names_of t) (flat_map names_of ts)
-    ∙ ap (λ (l : List Leaf). resource_tables p (names_of t) ++ resource_tables (p + 16 * length l) (flat_map names_of ts)) (names_all t)
-    ∙ ap (λ (l : List ℕ). resource_tables p (names_of t) ++ l) (tables_flat (p + 16 * length (elements t)) ts)
+    grind (arith, tables_append p (names_of t) (flat_map names_of ts), names_all t, tables_flat (p + 16 * length (elements t)) ts)
 
 pub tables_in_types : (p : ℕ) (xs : List Leaf) → language_tables p (types_of xs) ≡ resource_tables p (resources_of xs)
 tables_in_types p xs = sym (tables_flat p (types_of xs)) ∙ ap (resource_tables p) (resources_in_types xs)

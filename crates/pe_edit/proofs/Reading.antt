@@ -1,21 +1,11 @@
 -- Keys and data that are written are read.
-use Rattle.std.proofs.Common.{◌≡◌, ℕ, suc, ◌+◌, ◌-◌, ◌*◌, ◌/◌, ◌%◌, ◌^◌, ◌<◌, ◌≤◌, ◌==◌, Bool, true, false, List, [], ◌∷◌, ◌++◌, length, replicate, Option, Some, None, Result, Ok, Err, refl, ap, ◌∙◌, subst, arith, length-append, if◌then◌else◌}
-use Rattle.std.specs.Prelude.{nat_le}
-use Rattle.std.proofs.lemmas.List.{length-replicate}
-use Rattle.std.proofs.lemmas.Bool.Decides.{nat_tests}
-use Rattle.pe_core.specs.Bytes.{le, bytes_of, range, holds}
-use Rattle.pe_core.specs.SectionMap.{rounded_up}
-use Rattle.pe_core.specs.Refusals.{Refusal, Short, ResourceBounds, outcome, ◌>>=◌}
-use Rattle.pe_core.proofs.Splices.{length-bytes_of}
+use Rattle.std.proofs.Common.{◌≡◌, ℕ, ◌+◌, ◌-◌, ◌*◌, ◌/◌, ◌<◌, ◌≤◌, Bool, true, List, [], ◌∷◌, ◌++◌, length, replicate, Option, Some, None, Result, Ok, refl, ap, ◌∙◌, subst, arith, length-append, if◌then◌else◌}
+use Rattle.pe_edit.proofs.Cited.{length-replicate, nat_tests, le, bytes_of, range, holds, Refusal, Short, outcome, ◌>>=◌}
+use Rattle.pe_edit.proofs.Cited.{length-bytes_of, ResourceEntry, leaf_of, name_units, has_name, name_offset, Key, Id, Name, Leaf}
+use Rattle.pe_edit.proofs.Cited.{Each, total, name_size, name_bytes, key_number, KeyFits, LeafFits, padded_length, padded_size}
+use Rattle.pe_edit.proofs.Cited.{data_entries, contents, key_by, read_key, read_content, read_leaf, read_item}
 use Rattle.pe_resource.specs.declared.content.ResourceDataEntry.{ResourceDataEntry}
-use Rattle.pe_resource.specs.declared.entry.ResourceEntry.{ResourceEntry}
-use Rattle.pe_resource.specs.declared.leaves.ResourceLeaf.{ResourceLeaf}
 use Rattle.pe_resource.specs.Contents.{data_entry_at}
-use Rattle.pe_resource.specs.Leaves.{TreeRefusal, NotData, leaf_of, name_units}
-use Rattle.pe_resource.specs.Leaves as trees
-use Rattle.pe_resource.specs.ResourceEntries.{has_name, name_offset, is_directory}
-use Rattle.pe_edit.specs.Written.{Key, Id, Name, Leaf, Each, total, name_size, name_bytes, key_number, KeyFits, LeafFits, padded_length, padded_size, data_entries, contents}
-use Rattle.pe_edit.specs.Reread.{of_image, key_by, read_key, read_content, leaf_with, read_leaf, read_item}
 use Rattle.pe_edit.proofs.Stands.{Stands, left, right, number, part, inside, moved, rest_of_number}
 
 -- ---- keys
@@ -25,10 +15,7 @@ name_by t a c n m r u h i j k l = rw (h, i, j, k, l) refl
 
 pub key_read : (b : List ℕ) (s : ℕ) (k : Key) (e : ResourceEntry) → KeyFits k → s + name_size k < 2147483648 → e.name_or_id ≡ key_number s k → Stands b s (name_bytes k) → read_key b e ≡ Ok k
 unfolding name_units
-key_read b s (Id n) e f h is stands =
-    let no : has_name e ≡ false = grind (arith, nat_tests, is, f) in
-    let same : e.name_or_id % 2 ^ 16 ≡ n = omega (arith, is, f) in
-    rw no (ap (λ (k : ℕ). Ok (Id k)) same)
+key_read b s (Id n) e f h is stands = grind (arith, nat_tests)
 key_read b s (Name u) e f h is stands =
     let yes : has_name e ≡ true = grind (arith, nat_tests, is, h) in
     let place : name_offset e ≡ s = omega (arith, is, h) in
@@ -48,13 +35,9 @@ key_read b s (Name u) e f h is stands =
 
 -- ---- data
 
-more_at : (n : ℕ) (t : Bool) → (n == 0) ≡ t → n ≤ (if t then 8 else rounded_up n 8)
-more_at n true e = let none : n ≡ 0 = grind (arith, nat_tests, e) in omega (arith, none)
-more_at n false e = omega arith
-
 -- a content with its zeros is as long as the content at least
 pub padded_more : (n : ℕ) → n ≤ padded_length n
-padded_more n = more_at n (n == 0) refl
+padded_more n = grind (arith, nat_tests)
 
 abbrev pub entry_with : ℕ → Leaf → ResourceDataEntry
 entry_with a x = record { offset_to_data = a; size = length x.content; code_page = x.code_page; reserved = 0 }
@@ -71,12 +54,8 @@ abbrev pub DataStand : List ℕ → ℕ → ℕ → ℕ → List Leaf → Type 0
 DataStand b rva p a [] = Unit {0}
 DataStand b rva p a (x ∷ xs) = LeafData b rva p a x × DataStand b rva (p + 16) (a + padded_size x) xs
 
-entry_of_four : (b : List ℕ) (p m n k l : ℕ) → le b p 4 ≡ m → le b (p + 4) 4 ≡ n → le b (p + 8) 4 ≡ k → le b (p + 12) 4 ≡ l → data_entry_at b p ≡ record { offset_to_data = m; size = n; code_page = k; reserved = l }
-unfolding data_entry_at
-entry_of_four b p m n k l e f g h = rw (e, f, g, h) refl
-
 pub data_stand : (b : List ℕ) (rva p a : ℕ) (xs : List Leaf) → rva ≤ a → a + total padded_size xs < 4294967296 → Each LeafFits xs → Stands b p (data_entries a xs) → Stands b (a - rva) (contents xs) → DataStand b rva p a xs
-unfolding total data_entries contents
+unfolding total data_entries contents data_entry_at
 data_stand b rva p a [] h i f e c = tt
 data_stand b rva p a (x ∷ xs) h i f e c =
     let n : ℕ = length x.content in
@@ -101,7 +80,7 @@ data_stand b rva p a (x ∷ xs) h i f e c =
     let more : Stands b (a - rva + padded_size x) (contents xs) = right b (a - rva) (padded_size x) (x.content ++ zeros) (contents xs) long c in
     let next : Stands b (a + padded_size x - rva) (contents xs) = moved b (a - rva + padded_size x) (a + padded_size x - rva) (contents xs) (omega (arith, h)) more in (
       record {
-        entry = entry_of_four b p a n g 0 one two three four;
+        entry = rw (one, two, three, four) refl;
         head = omega (arith, room);
         above = h;
         content = part b (a - rva) n x.content refl here;
@@ -120,33 +99,16 @@ data_moved b rva p q a c xs e f d = subst (λ (k : ℕ). DataStand b rva q k xs)
 pub data_right : (b : List ℕ) (rva p a : ℕ) (xs ys : List Leaf) → DataStand b rva p a (xs ++ ys) → DataStand b rva (p + 16 * length xs) (a + total padded_size xs) ys
 unfolding total
 data_right b rva p a [] ys d = data_moved b rva p (p + 16 * 0) a (a + 0) ys (omega arith) (omega arith) d
-data_right b rva p a (x ∷ xs) ys d =
-    data_moved b rva (p + 16 + 16 * length xs) (p + 16 * suc (length xs)) (a + padded_size x + total padded_size xs) (a + (padded_size x + total padded_size xs)) ys (omega arith) (omega arith)
-    (data_right b rva (p + 16) (a + padded_size x) xs ys d.1)
+data_right b rva p a (x ∷ xs) ys d = grind (arith, data_right b rva (p + 16) (a + padded_size x) xs ys d.1)
 
 -- ---- one leaf
 
-content_by : (c d : Bool) (x y : List ℕ) → c ≡ true → d ≡ true → x ≡ y → ◌≡◌ {A = Result (List ℕ) Refusal} (outcome ((c, ResourceBounds) ∷ (d, ResourceBounds) ∷ []) x) (Ok y)
-content_by c d x y h i e = rw (h, i, e) refl
-
 content_read : (b : List ℕ) (rva p a : ℕ) (x : Leaf) → LeafData b rva p a x → read_content b rva (entry_with a x) ≡ Ok x.content
-content_read b rva p a x d =
-    content_by (nat_le rva a) (holds b (a - rva) (length x.content)) (range b (a - rva) (length x.content)) x.content
-    (grind (arith, nat_tests, d.above)) (grind (arith, nat_tests, d.inside)) d.content
-
-leaf_by : (dir c : Bool) (t n e : ResourceEntry) (d f : ResourceDataEntry) → dir ≡ false → c ≡ true → d ≡ f →
-    ◌≡◌ {A = Result ResourceLeaf TreeRefusal} (if dir then Err NotData else outcome ((c, trees.Image Short) ∷ []) (record { resource_type = t; name = n; language = e; data_entry = d })) (Ok (record { resource_type = t; name = n; language = e; data_entry = f }))
-leaf_by dir c t n e d f h i j = rw (h, i, j) refl
+content_read b rva p a x d = grind (arith, nat_tests)
 
 leaf_found : (b : List ℕ) (rva p a : ℕ) (x : Leaf) (t n e : ResourceEntry) → e.offset_to_data_or_directory ≡ p → p < 2147483648 → LeafData b rva p a x → leaf_of b t n e ≡ Ok (record { resource_type = t; name = n; language = e; data_entry = entry_with a x })
 unfolding leaf_of
-leaf_found b rva p a x t n e is low d =
-    leaf_by (is_directory e) (holds b e.offset_to_data_or_directory 16) t n e (data_entry_at b e.offset_to_data_or_directory) (entry_with a x)
-    (grind (arith, nat_tests, is, low)) (rw is (grind (arith, nat_tests, d.head))) (rw is d.entry)
-
-read_by : (k l m : Result Key Refusal) (c : Result (List ℕ) Refusal) (x : Leaf) → k ≡ Ok x.resource_type → l ≡ Ok x.name → m ≡ Ok (Id x.language) → c ≡ Ok x.content →
-    (of_image k >>= λ t. of_image l >>= λ n. of_image m >>= λ g. of_image c >>= λ v. leaf_with t n g x.code_page v) ≡ Ok x
-read_by k l m c x h i j e = rw (h, i, j, e) refl
+leaf_found b rva p a x t n e is low d = grind (arith, nat_tests)
 
 nothing : (b : List ℕ) → Stands b 0 []
 nothing b = record { front = []; back = b; is = refl; size = refl }
@@ -155,4 +117,4 @@ pub leaf_read : (b : List ℕ) (rva p a : ℕ) (x : Leaf) (t n e : ResourceEntry
 unfolding read_leaf
 leaf_read b rva p a x t n e h i j k low small d =
     ap (read_item b rva) (leaf_found b rva p a x t n e k low d)
-    ∙ read_by (read_key b t) (read_key b n) (read_key b e) (read_content b rva (entry_with a x)) x h i (key_read b 0 (Id x.language) e small (omega arith) j (nothing b)) (content_read b rva p a x d)
+    ∙ rw (h, i, (key_read b 0 (Id x.language) e small (omega arith) j (nothing b)), (content_read b rva p a x d)) refl

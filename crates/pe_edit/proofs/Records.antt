@@ -1,12 +1,7 @@
 -- The loops over records.
-use Rattle.std.proofs.Common.{◌≡◌, ℕ, ◌+◌, ◌<◌, ◌≤◌, ◌&&◌, Bool, true, false, List, length, drop, get_or, Option, Some, None, ap, refl, subst, sym, ◌∙◌, arith}
-use Rattle.std.specs.List.{list_all}
-use Rattle.std.specs.Prelude.{if◌then◌else◌, nat_le}
-use Rattle.std.proofs.lemmas.Bool.Decides.{nat_tests}
-use Rattle.std.proofs.lemmas.List.{drop_all, drop_more}
-use Rattle.pe_edit.specs.declared.record.ResourceRecord.{ResourceRecord}
-use Rattle.pe_edit.specs.RecordRefusals.{names_length, record_fits, sum_within}
-use Rattle.pe_edit.specs.Written.{total}
+use Rattle.std.proofs.Common.{◌≡◌, ℕ, ◌+◌, ◌<◌, ◌≤◌, ◌&&◌, Bool, true, false, List, length, drop, get_or, Some, None, ap, subst, sym, ◌∙◌, arith}
+use Rattle.pe_edit.proofs.Cited.{list_all, nat_le, nat_tests, drop_all, drop_more, ResourceRecord, names_length, record_fits}
+use Rattle.pe_edit.proofs.Cited.{sum_within, total}
 
 fit_at : (d : List ℕ) (rs : List ResourceRecord) (i : ℕ) (r : ResourceRecord) → i < length rs → list_all (record_fits d) (drop i rs) ≡ (record_fits d (get_or rs i r) && list_all (record_fits d) (drop (i + 1) rs))
 fit_at d rs i r h = ap (list_all (record_fits d)) (drop_more rs i r h)
@@ -26,38 +21,20 @@ total_at : {X : Type 0} (f : X → ℕ) (xs : List X) (i : ℕ) (x : X) → i < 
 unfolding total
 total_at f xs i x h = ap (total f) (drop_more xs i x h)
 
-no_total : {X : Type 0} (f : X → ℕ) (xs : List X) (i : ℕ) → length xs ≤ i → total f (drop i xs) ≡ 0
-unfolding total
-no_total f xs i h = ap (total f) (drop_all i xs h)
-
-some_within : (most m n : ℕ) (t : Bool) → nat_le m most ≡ t → Some n ≡ (if t then Some m else None) → (m ≤ most) × (n ≡ m)
-some_within most m n true e h = (grind (arith, nat_tests, e), cc)
-some_within most m n false e h = absurd cc
-
-none_within : (most m : ℕ) (t : Bool) → nat_le m most ≡ t → ◌≡◌ {A = Option ℕ} None (if t then Some m else None) → most < m
-none_within most m true e h = absurd cc
-none_within most m false e h = grind (arith, nat_tests, e)
-
 -- the numbers up to one are added to where the sum started
 pub record Added {X : Type 0} (f : X → ℕ) (most : ℕ) (xs : List X) (start sum i : ℕ) : Type 0 where
   pub small : sum ≤ most
   pub same : sum + total f (drop i xs) ≡ start + total f xs
 
 pub one_added : {X : Type 0} (f : X → ℕ) (most : ℕ) (xs : List X) (start sum next i : ℕ) (x : X) → i < length xs → Some next ≡ sum_within most sum (f (get_or xs i x)) → Added f most xs start sum i → Added f most xs start next (i + 1)
-one_added f most xs start sum next i x h e a =
-    let m : ℕ = sum + f (get_or xs i x) in
-    let both : (m ≤ most) × (next ≡ m) = some_within most m next (nat_le m most) refl e in
-    record { small = omega (arith, both.0, both.1); same = omega (arith, both.1, total_at f xs i x h, a.same) }
+one_added f most xs start sum next i x h e a = grind (arith, total_at, nat_tests)
 
 pub one_too_many : {X : Type 0} (f : X → ℕ) (most : ℕ) (xs : List X) (start sum i : ℕ) (x : X) → i < length xs → None ≡ sum_within most sum (f (get_or xs i x)) → Added f most xs start sum i → nat_le (start + total f xs) most ≡ false
-one_too_many f most xs start sum i x h e a =
-    let m : ℕ = sum + f (get_or xs i x) in
-    let more : most < m = none_within most m (nat_le m most) refl e in
-    let long : most < start + total f xs = omega (arith, more, total_at f xs i x h, a.same) in
-    grind (arith, nat_tests, long)
+one_too_many f most xs start sum i x h e a = grind (arith, total_at, nat_tests)
 
 pub sum_is : {X : Type 0} (f : X → ℕ) (most : ℕ) (xs : List X) (start sum i : ℕ) → length xs ≤ i → Added f most xs start sum i → sum ≡ start + total f xs
-sum_is f most xs start sum i h a = omega (arith, no_total f xs i h, a.same)
+unfolding total
+sum_is f most xs start sum i h a = omega (arith, ap (total f) (drop_all i xs h), a.same)
 
 pub all_within : {X : Type 0} (f : X → ℕ) (most : ℕ) (xs : List X) (start sum i : ℕ) → length xs ≤ i → Added f most xs start sum i → nat_le (start + total f xs) most ≡ true
 all_within f most xs start sum i h a =

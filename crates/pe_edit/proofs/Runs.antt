@@ -1,22 +1,11 @@
 -- The runs of a list are the list.
-use Rattle.std.proofs.Common.{◌-◌, take, drop, get_or, ◌≡◌, ℕ, zero, suc, ◌+◌, ◌<◌, ◌≤◌, Bool, true, false, List, [], ◌∷◌, ◌++◌, length, if◌then◌else◌, refl, ap, sym, ◌∙◌, arith}
-use Rattle.std.specs.List.{flat_map}
-use Rattle.std.proofs.lemmas.List.{drop_more, drop_all}
-use Rattle.pe_edit.specs.Runs.{elements, in_front, runs, run_length}
-use Rattle.pe_edit.specs.Written.{Each}
-
-front_at : {X : Type 0} (test : Bool) (x : X) (r : X × List X) (rs : List (X × List X)) → flat_map elements (if test then (x, r.0 ∷ r.1) ∷ rs else (x, []) ∷ r ∷ rs) ≡ x ∷ flat_map elements (r ∷ rs)
-front_at true x r rs = refl
-front_at false x r rs = refl
-
-front : {X : Type 0} (alike : X → X → Bool) (x : X) (rs : List (X × List X)) → flat_map elements (in_front alike x rs) ≡ x ∷ flat_map elements rs
-front alike x [] = refl
-front alike x (r ∷ rs) = front_at (alike x r.0) x r rs
+use Rattle.std.proofs.Common.{◌-◌, take, drop, get_or, ◌≡◌, ℕ, zero, suc, ◌+◌, ◌<◌, ◌≤◌, Bool, true, false, List, [], ◌∷◌, ◌++◌, length, if◌then◌else◌, refl, ap, ◌∙◌, arith}
+use Rattle.pe_edit.proofs.Cited.{flat_map, drop_more, drop_all, elements, in_front, runs, run_length, Each}
 
 pub runs_all : {X : Type 0} (alike : X → X → Bool) (xs : List X) → flat_map elements (runs alike xs) ≡ xs
 unfolding runs
 runs_all alike [] = refl
-runs_all {X} alike (x ∷ xs) = front alike x (runs alike xs) ∙ ap (λ (l : List X). x ∷ l) (runs_all alike xs)
+runs_all {X} alike (x ∷ xs) = grind arith ∙ ap (λ (l : List X). x ∷ l) (runs_all alike xs)
 
 -- each element has this key
 abbrev pub EachHas : {X K : Type 0} → (X → K) → K → List X → Type 0
@@ -28,48 +17,25 @@ RunsAlike key [] = Unit {0}
 RunsAlike key (r ∷ rs) = EachHas key (key r.0) r.1 × RunsAlike key rs
 
 each_moved : {X K : Type 0} (key : X → K) (j k : K) (xs : List X) → j ≡ k → EachHas key j xs → EachHas key k xs
-each_moved key j k [] e h = tt
-each_moved key j k (x ∷ xs) e h = (h.0 ∙ e, each_moved key j k xs e h.1)
-
-alike_at : {X K : Type 0} (key : X → K) (test : Bool) (x : X) (r : X × List X) (rs : List (X × List X)) → (test ≡ true → key x ≡ key r.0) → RunsAlike key (r ∷ rs) → RunsAlike key (if test then (x, r.0 ∷ r.1) ∷ rs else (x, []) ∷ r ∷ rs)
-alike_at key true x r rs e h = ((sym (e refl), each_moved key (key r.0) (key x) r.1 (sym (e refl)) h.0), h.1)
-alike_at key false x r rs e h = (tt, h)
-
-alike_front : {X K : Type 0} (key : X → K) (alike : X → X → Bool) (x : X) (rs : List (X × List X)) → ((x y : X) → alike x y ≡ true → key x ≡ key y) → RunsAlike key rs → RunsAlike key (in_front alike x rs)
-alike_front key alike x [] same h = (tt, tt)
-alike_front key alike x (r ∷ rs) same h = alike_at key (alike x r.0) x r rs (same x r.0) h
+each_moved key j k xs e h = grind arith
 
 pub runs_alike : {X K : Type 0} (key : X → K) (alike : X → X → Bool) (xs : List X) → ((x y : X) → alike x y ≡ true → key x ≡ key y) → RunsAlike key (runs alike xs)
 unfolding runs
 runs_alike key alike [] same = tt
-runs_alike key alike (x ∷ xs) same = alike_front key alike x (runs alike xs) same (runs_alike key alike xs same)
-
--- there are no more runs than elements
-fewer_at : {X : Type 0} (test : Bool) (x : X) (r : X × List X) (rs : List (X × List X)) → length (if test then (x, r.0 ∷ r.1) ∷ rs else (x, []) ∷ r ∷ rs) ≤ suc (length (r ∷ rs))
-fewer_at true x r rs = omega arith
-fewer_at false x r rs = omega arith
+runs_alike key alike (x ∷ xs) same = grind (arith, each_moved, runs_alike key alike xs same)
 
 fewer : {X : Type 0} (alike : X → X → Bool) (x : X) (rs : List (X × List X)) → length (in_front alike x rs) ≤ suc (length rs)
-fewer alike x [] = omega arith
-fewer alike x (r ∷ rs) = fewer_at (alike x r.0) x r rs
+fewer alike x rs = grind arith
 
 pub count_of_runs : {X : Type 0} (alike : X → X → Bool) (xs : List X) → length (runs alike xs) ≤ length xs
 unfolding runs
 count_of_runs alike [] = omega arith
 count_of_runs alike (x ∷ xs) = omega (arith, fewer alike x (runs alike xs), count_of_runs alike xs)
 
-some_at : {X : Type 0} (test : Bool) (x : X) (r : X × List X) (rs : List (X × List X)) → 0 < length (if test then (x, r.0 ∷ r.1) ∷ rs else (x, []) ∷ r ∷ rs)
-some_at true x r rs = omega arith
-some_at false x r rs = omega arith
-
-some_front : {X : Type 0} (alike : X → X → Bool) (x : X) (rs : List (X × List X)) → 0 < length (in_front alike x rs)
-some_front alike x [] = omega arith
-some_front alike x (r ∷ rs) = some_at (alike x r.0) x r rs
-
 -- a list with an element has a run
 pub some_run : {X : Type 0} (alike : X → X → Bool) (x : X) (xs : List X) → 0 < length (runs alike (x ∷ xs))
 unfolding runs
-some_run alike x xs = some_front alike x (runs alike xs)
+some_run alike x xs = grind arith
 
 -- ---- what is true of each
 
@@ -92,25 +58,12 @@ each_first {X} P (r ∷ rs) e = (e.0, each_first P rs (each_right P r.1 (flat_ma
 
 -- ---- the first run
 
-some_length_at : (test : Bool) (k : ℕ) → 0 < (if test then suc k else 1)
-some_length_at true k = omega arith
-some_length_at false k = omega arith
-
 pub some_length : {X : Type 0} (alike : X → X → Bool) (x : X) (xs : List X) → 0 < run_length alike (x ∷ xs)
 unfolding run_length
-some_length alike x [] = omega arith
-some_length alike x (y ∷ ys) = some_length_at (alike x y) (run_length alike (y ∷ ys))
+some_length alike x xs = grind arith
 
 pub take_front : {X : Type 0} (y : X) (zs : List X) (k : ℕ) → 0 < k → take k (y ∷ zs) ≡ y ∷ take (k - 1) zs
-take_front y zs zero h = absurd (omega (arith, h))
-take_front {X} y zs (suc k) h = ap (λ (j : ℕ). y ∷ take j zs) (omega arith)
-
-run_at : {X : Type 0} (alike : X → X → Bool) (test : Bool) (x y : X) (zs : List X) (k : ℕ) → 0 < k → runs alike (y ∷ zs) ≡ (y, take (k - 1) zs) ∷ runs alike (drop k (y ∷ zs)) →
-    (if test then (x, y ∷ take (k - 1) zs) ∷ runs alike (drop k (y ∷ zs)) else (x, []) ∷ (y, take (k - 1) zs) ∷ runs alike (drop k (y ∷ zs)))
-    ≡ (x, take ((if test then suc k else 1) - 1) (y ∷ zs)) ∷ runs alike (drop (if test then suc k else 1) (x ∷ y ∷ zs))
-run_at {X} alike true x y zs k some e =
-    ap (λ (l : List X). (x, l) ∷ runs alike (drop k (y ∷ zs))) (sym (ap (λ (j : ℕ). take j (y ∷ zs)) (omega arith) ∙ take_front y zs k some))
-run_at {X} alike false x y zs k some e = ap (λ (l : List (X × List X)). (x, []) ∷ l) (sym e)
+take_front y zs k h = grind arith
 
 -- it is the first of the runs
 pub first_run : {X : Type 0} (alike : X → X → Bool) (x : X) (xs : List X) → runs alike (x ∷ xs) ≡ (x, take (run_length alike (x ∷ xs) - 1) xs) ∷ runs alike (drop (run_length alike (x ∷ xs)) (x ∷ xs))
@@ -119,7 +72,7 @@ first_run alike x [] = refl
 first_run {X} alike x (y ∷ zs) =
     let k : ℕ = run_length alike (y ∷ zs) in
     let e : runs alike (y ∷ zs) ≡ (y, take (k - 1) zs) ∷ runs alike (drop k (y ∷ zs)) = first_run alike y zs in
-    ap (in_front alike x) e ∙ run_at alike (alike x y) x y zs k (some_length alike y zs) e
+    ap (in_front alike x) e ∙ grind (arith, take_front, some_length alike y zs)
 
 -- the length of the first run of what is left, by the two elements in front
 length_by : {X : Type 0} (alike : X → X → Bool) (x y : X) (zs : List X) (test : Bool) → alike x y ≡ test → run_length alike (x ∷ y ∷ zs) ≡ (if test then suc (run_length alike (y ∷ zs)) else 1)
@@ -127,10 +80,7 @@ unfolding run_length
 length_by alike x y zs test e = ap (λ (t : Bool). if t then suc (run_length alike (y ∷ zs)) else 1) e
 
 two_in_front : {X : Type 0} (xs : List X) (n : ℕ) (d : X) → 0 < n → n < length xs → drop (n - 1) xs ≡ get_or xs (n - 1) d ∷ get_or xs n d ∷ drop (n + 1) xs
-two_in_front {X} xs n d some h =
-    drop_more xs (n - 1) d (omega (arith, some, h))
-    ∙ ap (λ (k : ℕ). get_or xs (n - 1) d ∷ drop k xs) (omega (arith, some))
-    ∙ ap (λ (l : List X). get_or xs (n - 1) d ∷ l) (drop_more xs n d h)
+two_in_front xs n d some h = grind (arith, drop_more)
 
 -- what is known in a loop that counts the first run
 pub record Counts {X : Type 0} (alike : X → X → Bool) (xs : List X) (n : ℕ) : Type 0 where
@@ -139,38 +89,23 @@ pub record Counts {X : Type 0} (alike : X → X → Bool) (xs : List X) (n : ℕ
   pub left : run_length alike xs ≡ n - 1 + run_length alike (drop (n - 1) xs)
 
 pub counts_more : {X : Type 0} (alike : X → X → Bool) (xs : List X) (n : ℕ) (d : X) → n < length xs → alike (get_or xs (n - 1) d) (get_or xs n d) ≡ true → Counts alike xs n → Counts alike xs (n + 1)
-counts_more {X} alike xs n d h e c =
-    let rest : drop n xs ≡ get_or xs n d ∷ drop (n + 1) xs = drop_more xs n d h in
-    let same : run_length alike (drop (n - 1) xs) ≡ suc (run_length alike (drop n xs)) =
-    ap (run_length alike) (two_in_front xs n d c.some h) ∙ length_by alike (get_or xs (n - 1) d) (get_or xs n d) (drop (n + 1) xs) true e ∙ ap (λ (l : List X). suc (run_length alike l)) (sym rest) in
-    let place : n + 1 - 1 ≡ n = omega arith in
-    record { some = omega arith; inside = omega (arith, h); left = rw place (omega (arith, c.left, same, c.some)) }
+counts_more alike xs n d h e c = grind (arith, drop_more, two_in_front, length_by)
 
 pub counts_end : {X : Type 0} (alike : X → X → Bool) (xs : List X) (n : ℕ) (d : X) → n < length xs → alike (get_or xs (n - 1) d) (get_or xs n d) ≡ false → Counts alike xs n → n ≡ run_length alike xs
-counts_end alike xs n d h e c =
-    let one : run_length alike (drop (n - 1) xs) ≡ 1 = ap (run_length alike) (two_in_front xs n d c.some h) ∙ length_by alike (get_or xs (n - 1) d) (get_or xs n d) (drop (n + 1) xs) false e in
-    omega (arith, c.left, one, c.some)
-
-last_alone : {X : Type 0} (alike : X → X → Bool) (x : X) → run_length alike (x ∷ []) ≡ 1
-unfolding run_length
-last_alone alike x = refl
+counts_end alike xs n d h e c = grind (arith, two_in_front, length_by)
 
 pub counts_all : {X : Type 0} (alike : X → X → Bool) (xs : List X) (n : ℕ) (d : X) → length xs ≤ n → Counts alike xs n → n ≡ run_length alike xs
+unfolding run_length
 counts_all {X} alike xs n d h c =
     let rest : drop (n - 1) xs ≡ get_or xs (n - 1) d ∷ [] = drop_more xs (n - 1) d (omega (arith, c.some, c.inside)) ∙ ap (λ (l : List X). get_or xs (n - 1) d ∷ l) (drop_all (n - 1 + 1) xs (omega (arith, c.some, h))) in
-    let one : run_length alike (drop (n - 1) xs) ≡ 1 = ap (run_length alike) rest ∙ last_alone alike (get_or xs (n - 1) d) in
+    let one : run_length alike (drop (n - 1) xs) ≡ 1 = ap (run_length alike) rest in
     omega (arith, c.left, one, c.some)
-
--- the first run is inside
-inside_by : (test : Bool) (k n : ℕ) → k ≤ n → (if test then suc k else 1) ≤ suc n
-inside_by true k n h = omega (arith, h)
-inside_by false k n h = omega arith
 
 pub run_inside : {X : Type 0} (alike : X → X → Bool) (xs : List X) → run_length alike xs ≤ length xs
 unfolding run_length
 run_inside alike [] = omega arith
 run_inside alike (x ∷ []) = omega arith
-run_inside alike (x ∷ y ∷ ys) = inside_by (alike x y) (run_length alike (y ∷ ys)) (length (y ∷ ys)) (run_inside alike (y ∷ ys))
+run_inside alike (x ∷ y ∷ ys) = grind (arith, run_inside alike (y ∷ ys))
 
 pub each_drop : {X : Type 0} (P : X → Type 0) (n : ℕ) (xs : List X) → Each P xs → Each P (drop n xs)
 each_drop P zero xs e = e

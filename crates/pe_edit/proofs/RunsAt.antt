@@ -1,12 +1,7 @@
 -- The leaves of one entry, in a slice of leaves.
-use Rattle.std.proofs.Common.{◌≡◌, ℕ, zero, suc, ◌+◌, ◌-◌, ◌<◌, ◌≤◌, Bool, true, false, List, [], ◌∷◌, ◌++◌, length, take, drop, get_or, refl, ap, sym, ◌∙◌, subst, arith, length-drop}
-use Rattle.std.proofs.lemmas.List.{drop_more, drop_all, drop-drop, length-take-le, take-append-drop}
-use Rattle.pe_edit.specs.declared.level.Level.{Level}
-use Rattle.pe_edit.specs.declared.level.Level.TheVariants as levels
-use Rattle.pe_edit.specs.Levels.{IsRunAt, alike, key_at, key_of_run, runs_of}
-use Rattle.pe_edit.specs.Runs.{run_length, runs}
-use Rattle.pe_edit.specs.Views.{no_leaf}
-use Rattle.pe_edit.specs.Written.{Each, Leaf, NameFits, NamesFit}
+use Rattle.std.proofs.Common.{◌≡◌, ℕ, ◌+◌, ◌-◌, ◌<◌, ◌≤◌, Bool, true, false, List, [], ◌∷◌, ◌++◌, length, take, drop, get_or, ap, sym, ◌∙◌, subst, arith, length-drop}
+use Rattle.pe_edit.proofs.Cited.{drop_more, drop_all, drop-drop, length-take-le, take-append-drop, Level, IsRunAt, alike}
+use Rattle.pe_edit.proofs.Cited.{key_of_run, runs_of, run_length, runs, no_leaf, Each, Leaf, NameFits, NamesFit}
 use Rattle.pe_edit.proofs.Runs.{Counts, counts_more, counts_end, counts_all, first_run, some_length, run_inside, take_front, each_drop, each_left}
 
 -- the leaf with an index, and those after it
@@ -17,8 +12,7 @@ leaf_at xs i x h e = drop_more xs i no_leaf h ∙ ap (λ (y : Leaf). y ∷ drop 
 
 test_at : (level : Level) (xs : List Leaf) (n : ℕ) (x y : Leaf) (t u : Bool) → x ≡ get_or xs (n - 1) no_leaf → y ≡ get_or xs n no_leaf → t ≡ alike level x y → t ≡ u →
     alike level (get_or xs (n - 1) no_leaf) (get_or xs n no_leaf) ≡ u
-test_at level xs n x y t u is_x is_y e f =
-    ap (λ (z : Leaf). alike level z (get_or xs n no_leaf)) (sym is_x) ∙ ap (λ (z : Leaf). alike level x z) (sym is_y) ∙ sym e ∙ f
+test_at level xs n x y t u is_x is_y e f = grind arith
 
 pub run_more : (level : Level) (xs : List Leaf) (n : ℕ) (x y : Leaf) (t : Bool) → n < length xs → x ≡ get_or xs (n - 1) no_leaf → y ≡ get_or xs n no_leaf → t ≡ alike level x y → t ≡ true →
     Counts (alike level) xs n → Counts (alike level) xs (n + 1)
@@ -71,31 +65,15 @@ is_run_at level xs left run start n h e c r =
 
 -- ---- what is known of a run
 
-pub run_some : (level : Level) (xs r : List Leaf) (start : ℕ) → IsRunAt level xs start r → 0 < length r
-run_some level xs r start k = omega (arith, ap length k.is)
-
 pub run_fits : (level : Level) (xs r : List Leaf) (start : ℕ) → IsRunAt level xs start r → Each NamesFit xs → Each NamesFit r
 run_fits level xs r start k f = each_left NamesFit r (drop (start + length r) xs) (subst (λ (l : List Leaf). Each NamesFit l) k.left (each_drop NamesFit start xs f))
 
-key_at_fits : (level : Level) (x : Leaf) (xs : List Leaf) → NamesFit x → NameFits (key_at level (x, xs))
-key_at_fits levels.Types x xs f = f.0
-key_at_fits levels.Names x xs f = f.1
-key_at_fits levels.Languages x xs f = tt
-
-key_of_run_fits : (level : Level) (r : List Leaf) → 0 < length r → Each NamesFit r → NameFits (key_of_run level r)
-key_of_run_fits level [] h f = absurd (omega (arith, h))
-key_of_run_fits level (x ∷ xs) h f = key_at_fits level x xs f.0
-
 pub run_key_fits : (level : Level) (xs r : List Leaf) (start : ℕ) → IsRunAt level xs start r → Each NamesFit xs → NameFits (key_of_run level r)
-run_key_fits level xs r start k f = key_of_run_fits level r (run_some level xs r start k) (run_fits level xs r start k f)
-
--- no leaf is left, and no run
-no_runs : (same : Leaf → Leaf → Bool) (ys : List Leaf) → ys ≡ [] → runs same ys ≡ []
-unfolding runs
-no_runs same ys e = ap (runs same) e
+run_key_fits level xs r start k f = grind (arith, run_fits level xs r start k f)
 
 pub no_runs_at : (level : Level) (xs : List Leaf) (start : ℕ) → length xs ≤ start → runs_of level (drop start xs) ≡ []
-no_runs_at level xs start h = no_runs (alike level) (drop start xs) (drop_all start xs h)
+unfolding runs
+no_runs_at level xs start h = ap (runs (alike level)) (drop_all start xs h)
 
 pub run_within : (level : Level) (left : List Leaf) (n : ℕ) → n ≡ run_length (alike level) left → n ≤ length left
 run_within level left n e = omega (arith, e, run_inside (alike level) left)

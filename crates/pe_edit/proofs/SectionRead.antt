@@ -1,17 +1,10 @@
 -- A section that is written is read: to the leaves that it was written of.
 use Rattle.std.proofs.Common.{◌≡◌, ℕ, ◌+◌, ◌-◌, ◌*◌, ◌<◌, ◌≤◌, List, [], ◌∷◌, ◌++◌, length, map, replicate, Ok, refl, ap, sym, ◌∙◌, subst, arith, length-append}
-use Rattle.std.specs.List.{flat_map}
-use Rattle.std.proofs.lemmas.List.{length-replicate}
-use Rattle.pe_core.specs.Bytes.{range, bytes_of}
-use Rattle.pe_core.specs.SectionMap.{rounded_up}
-use Rattle.pe_core.proofs.Splices.{length-bytes_of}
-use Rattle.pe_resource.specs.declared.entry.ResourceEntry.{ResourceEntry}
-use Rattle.pe_resource.specs.Leaves.{tree_leaves}
-use Rattle.pe_resource.specs.ResourceEntries.{entries}
-use Rattle.pe_edit.specs.Runs.{elements}
-use Rattle.pe_edit.specs.declared.layout.Layout.{Layout}
-use Rattle.pe_edit.specs.Written.{Leaf, Each, total, name_size, names, KeyFits, LeafFits, Fits, padded_size, entries_to, directory_to, type_key, name_key, types_of, resources_of, type_size, resource_size, below_size, names_size, type_tables, resource_tables, same_type, data_entries, contents, layout_of, section_at, section, section_length}
-use Rattle.pe_edit.specs.Reread.{read_item, first_entries, leaves_in}
+use Rattle.pe_edit.proofs.Cited.{flat_map, length-replicate, range, bytes_of, rounded_up, length-bytes_of, ResourceEntry}
+use Rattle.pe_edit.proofs.Cited.{tree_leaves, entries, elements, Layout, Leaf, Each, total, name_size, names, KeyFits, LeafFits}
+use Rattle.pe_edit.proofs.Cited.{Fits, padded_size, entries_to, directory_to, type_key, name_key, types_of, resources_of, type_size}
+use Rattle.pe_edit.proofs.Cited.{resource_size, below_size, names_size, type_tables, resource_tables, same_type, data_entries}
+use Rattle.pe_edit.proofs.Cited.{contents, layout_of, section_at, section, section_length, read_item, first_entries, leaves_in}
 use Rattle.pe_edit.proofs.Nested.{names_of, names_in_types, tables_in_types, sum_in_types}
 use Rattle.pe_edit.proofs.Runs.{RunsAlike, runs_all, runs_alike, count_of_runs, each_weaker, each_first}
 use Rattle.pe_edit.proofs.Stands.{Stands, whole, left, right, moved}
@@ -71,10 +64,6 @@ types_all xs = runs_all same_type xs
 pub types_alike : (xs : List Leaf) → RunsAlike (λ x. x.resource_type) (types_of xs)
 unfolding types_of
 types_alike xs = runs_alike (λ x. x.resource_type) same_type xs (λ x y h. same_keys x.resource_type y.resource_type h)
-
-few_types : (xs : List Leaf) → length (types_of xs) ≤ length xs
-unfolding types_of
-few_types xs = count_of_runs same_type xs
 
 -- the parts of a section, each at its place
 pub record Parts (b : List ℕ) (l : Layout) (rva : ℕ) (xs : List Leaf) : Type 0 where
@@ -150,11 +139,13 @@ types_stand b l rva xs is parts few fit low end =
 
 pub first_read : (b : List ℕ) (l : Layout) (rva : ℕ) (xs : List Leaf) → IsLayout l xs → Parts b l rva xs → length xs < 65536 → Each LeafFits xs → l.contents < 2147483648 →
     first_entries b ≡ entry_list type_key type_size l.type_names (2147483648 + l.types) (types_of xs)
+unfolding types_of
 first_read b l rva xs is parts few fit low =
     let ts : List (Leaf × List Leaf) = types_of xs in
     let p : ℕ = 2147483648 + l.types in
     let up : l.names_end ≤ l.contents = omega (arith, is.contents) in
-    let read : ReadTable b 0 (length ts) (entries_to type_key type_size l.type_names p ts) = table_read type_key type_size b 0 l.type_names p ts (omega (arith, few, few_types xs)) parts.first in
+    let read : ReadTable b 0 (length ts) (entries_to type_key type_size l.type_names p ts) =
+    table_read type_key type_size b 0 l.type_names p ts (omega (arith, few, count_of_runs same_type xs)) parts.first in
     let same : flat_map elements ts ≡ xs = types_all xs in
     let keys : Each (λ r. KeyFits (type_key r)) ts =
     each_weaker (λ r. LeafFits r.0) (λ r. KeyFits (type_key r)) ts (λ r f. f.resource_type) (each_first LeafFits ts (subst (λ (ys : List Leaf). Each LeafFits ys) (sym same) fit)) in
@@ -178,40 +169,4 @@ section_read rva xs f =
 pub length_of_section : (rva : ℕ) (xs : List Leaf) → length (section rva xs) ≡ section_length xs
 unfolding section section_at section_length
 length_of_section rva xs =
-    let l : Layout = layout_of xs in
-    let is : IsLayout l xs = is_layout xs in
-    let ts : List (Leaf × List Leaf) = types_of xs in
-    let ns : List (Leaf × List Leaf) = resources_of xs in
-    let x1 : List ℕ = directory_to type_key type_size l.type_names (2147483648 + l.types) ts in
-    let x2 : List ℕ = type_tables l.names (2147483648 + l.languages) ts in
-    let x3 : List ℕ = resource_tables l.entries ns in
-    let x4 : List ℕ = data_entries (rva + l.contents) xs in
-    let x5 : List ℕ = names type_key ts in
-    let x6 : List ℕ = names name_key ns in
-    let x7 : List ℕ = replicate (l.contents - l.names_end) 0 in
-    let x8 : List ℕ = contents xs in
-    length-append x1 (x2 ++ (x3 ++ (x4 ++ (x5 ++ (x6 ++ (x7 ++ x8))))))
-    ∙ omega (
-      arith,
-      is.types,
-      is.languages,
-      is.entries,
-      is.type_names,
-      is.names,
-      is.names_end,
-      is.contents,
-      length-append x2 (x3 ++ (x4 ++ (x5 ++ (x6 ++ (x7 ++ x8))))),
-      length-append x3 (x4 ++ (x5 ++ (x6 ++ (x7 ++ x8)))),
-      length-append x4 (x5 ++ (x6 ++ (x7 ++ x8))),
-      length-append x5 (x6 ++ (x7 ++ x8)),
-      length-append x6 (x7 ++ x8),
-      length-append x7 x8,
-      length-directory_to type_key type_size l.type_names (2147483648 + l.types) ts,
-      length-type_tables l.names (2147483648 + l.languages) ts,
-      length-resource_tables l.entries ns,
-      length-data_entries (rva + l.contents) xs,
-      length-names type_key ts,
-      length-names name_key ns,
-      length-replicate {A = ℕ} (l.contents - l.names_end) 0,
-      length-contents xs,
-    )
+    grind (arith, is_layout, length-append, length-directory_to, length-type_tables, length-resource_tables, length-data_entries, length-names, length-replicate, length-contents)

@@ -1,18 +1,12 @@
 -- In a sorted list the leaves of one type are neighbours, and so are those of one name of it: a search by keys finds the leaf
 -- in the runs.
 use Rattle.std.proofs.Common.{◌≡◌, ℕ, ◌-◌, ◌<◌, ◌&&◌, ◌==◌, ◌⊎◌, inl, inr, ⊎_elim, Bool, true, false, List, [], ◌∷◌, cond, take, drop, Option, Some, None, refl, ap, sym, ◌∙◌, subst, arith, if◌then◌else◌}
-use Rattle.std.specs.Prelude.{nat_lt}
-use Rattle.std.specs.List.{find, flat_map}
-use Rattle.std.proofs.lemmas.Bool.{false≢true}
-use Rattle.std.proofs.lemmas.Bool.Decides.{nat_tests}
-use Rattle.pe_resource.specs.VersionStrings.{units}
-use Rattle.pe_edit.specs.Found.{as_read, found_leaf, has_keys, with_keys}
-use Rattle.pe_edit.specs.Runs.{elements, in_front, run_length, runs}
-use Rattle.pe_edit.specs.Sorted.{is_sorted, key_before, leaf_before, units_before}
-use Rattle.pe_edit.specs.Written.{Each, Fits, Id, Key, Leaf, Name, key_eq, name_key, resources_of, same_resource, same_type, section, type_key, types_of}
-use Rattle.pe_edit.proofs.Levels.{names_alike, names_all, same_keys}
+use Rattle.pe_edit.proofs.Cited.{nat_lt, find, flat_map, false≢true, nat_tests, as_read, found_leaf, has_keys, with_keys, elements}
+use Rattle.pe_edit.proofs.Cited.{in_front, run_length, runs, is_sorted, key_before, leaf_before, units_before, Each, Fits, Key}
+use Rattle.pe_edit.proofs.Cited.{Leaf, key_eq, name_key, resources_of, same_resource, same_type, section, type_key, types_of, both}
+use Rattle.pe_edit.proofs.Levels.{names_alike, same_keys}
 use Rattle.pe_edit.proofs.Lookups.{found_in_runs, in_languages, in_names, in_types}
-use Rattle.pe_edit.proofs.Nested.{names_of}
+use Rattle.pe_edit.proofs.Nested.{names_of, names_all}
 use Rattle.pe_edit.proofs.Runs.{EachHas, RunsAlike, each_left, each_right, first_run}
 use Rattle.pe_edit.proofs.SectionRead.{types_alike}
 
@@ -22,39 +16,21 @@ not_below_itself : (us : List ℕ) → units_before us us ≡ false
 not_below_itself [] = refl
 not_below_itself (u ∷ us) = let t : (u == u) ≡ true = grind (arith, nat_tests) in rw t (not_below_itself us)
 
-not_before_itself : (k : Key) → key_before k k ≡ false
-not_before_itself (Id n) = grind (arith, nat_tests)
-not_before_itself (Name u) = not_below_itself (units u)
-
-split_at : (u v : ℕ) (t b : Bool) → (u == v) ≡ b → (if b then t else nat_lt u v) ≡ true → ((u ≡ v) × (t ≡ true)) ⊎ (u < v)
-split_at u v t true e h = inl (grind (arith, nat_tests, e), h)
-split_at u v t false e h = inr (grind (arith, nat_tests, h))
-
 split : (u v : ℕ) (t : Bool) → (if u == v then t else nat_lt u v) ≡ true → ((u ≡ v) × (t ≡ true)) ⊎ (u < v)
-split u v t h = split_at u v t (u == v) refl h
+split u v t h = grind (arith, nat_tests)
 
 less : (u v : ℕ) (t : Bool) → u < v → (if u == v then t else nat_lt u v) ≡ true
-less u v t h =
-    let e : (u == v) ≡ false = grind (arith, nat_tests, h) in
-    let l : nat_lt u v ≡ true = grind (arith, nat_tests, h) in
-    rw (e, l) refl
-
-equal : (u v : ℕ) (t : Bool) → u ≡ v → t ≡ true → (if u == v then t else nat_lt u v) ≡ true
-equal u v t h i =
-    let e : (u == v) ≡ true = grind (arith, nat_tests, h) in
-    rw (e, i) refl
+less u v t h = grind (arith, nat_tests)
 
 units_then : (us vs ws : List ℕ) → units_before us vs ≡ true → units_before vs ws ≡ true → units_before us ws ≡ true
-units_then [] [] ws h i = absurd (false≢true h)
-units_then [] (v ∷ vs) [] h i = absurd (false≢true i)
-units_then [] (v ∷ vs) (w ∷ ws) h i = refl
+units_then [] vs ws h i = grind (arith, false≢true)
 units_then (u ∷ us) [] ws h i = absurd (false≢true h)
 units_then (u ∷ us) (v ∷ vs) [] h i = absurd (false≢true i)
 units_then (u ∷ us) (v ∷ vs) (w ∷ ws) h i =
     ⊎_elim
     (λ (x : (u ≡ v) × (units_before us vs ≡ true)).
     ⊎_elim
-    (λ (y : (v ≡ w) × (units_before vs ws ≡ true)). equal u w (units_before us ws) (x.0 ∙ y.0) (units_then us vs ws x.1 y.1))
+    (λ (y : (v ≡ w) × (units_before vs ws ≡ true)). grind (arith, nat_tests, x.0 ∙ y.0, units_then us vs ws x.1 y.1))
     (λ (y : v < w). less u w (units_before us ws) (omega (arith, x.0, y)))
     (split v w (units_before vs ws) i))
     (λ (x : u < v).
@@ -65,13 +41,7 @@ units_then (u ∷ us) (v ∷ vs) (w ∷ ws) h i =
     (split u v (units_before us vs) h)
 
 key_then : (j k l : Key) → key_before j k ≡ true → key_before k l ≡ true → key_before j l ≡ true
-key_then (Id m) (Id n) (Id o) h i = grind (arith, nat_tests, h, i)
-key_then (Id m) (Id n) (Name w) h i = absurd (false≢true i)
-key_then (Id m) (Name v) l h i = absurd (false≢true h)
-key_then (Name u) (Id n) (Id o) h i = refl
-key_then (Name u) (Id n) (Name w) h i = absurd (false≢true i)
-key_then (Name u) (Name v) (Id o) h i = refl
-key_then (Name u) (Name v) (Name w) h i = units_then (units u) (units v) (units w) h i
+key_then j k l h i = grind (arith, nat_tests, false≢true, units_then)
 
 -- ---- lists whose keys climb
 
@@ -99,11 +69,7 @@ later key k (x ∷ xs) f = (inr f.0, later key k xs f.1)
 
 climbing : (same : Leaf → Leaf → Bool) (key : Leaf → Key) (x : Leaf) (xs : List Leaf) → Climbs same key (x ∷ xs) → From key (key x) xs
 climbing same key x [] c = tt
-climbing same key x (y ∷ ys) c =
-    ⊎_elim
-    (λ (e : (same x y ≡ true) × (key y ≡ key x)). (inl e.1, subst (λ (k : Key). From key k ys) e.1 (climbing same key y ys c.1)))
-    (λ (e : (same x y ≡ false) × (key_before (key x) (key y) ≡ true)). (inr e.1, later key (key x) ys (from_before key (key x) (key y) ys e.1 (climbing same key y ys c.1))))
-    c.0
+climbing same key x (y ∷ ys) c = grind (arith, later, from_before, climbing same key y ys c.1, climbing same key y ys c.1)
 
 -- ---- a search in runs
 
@@ -118,21 +84,12 @@ none_later key k p (x ∷ xs) only f = ap (λ (t : Bool). cond t (Some x) (find 
 
 other_key : (j k : Key) (t : Bool) → key_eq k j ≡ t → key_before j k ≡ true → t ≡ false
 other_key j k false e h = refl
-other_key j k true e h = absurd (false≢true (sym (not_before_itself j) ∙ ap (key_before j) (sym (same_keys k j e)) ∙ h))
+other_key j k true e h =
+    absurd (false≢true (sym (grind (arith, nat_tests, not_below_itself)) ∙ ap (key_before j) (sym (same_keys k j e)) ∙ h))
 
 others : (key : Leaf → Key) (j : Key) (xs : List Leaf) → Each (λ y. key_before j (key y) ≡ true) xs → Each (λ y. key_eq (key y) j ≡ false) xs
 others key j [] f = tt
 others key j (x ∷ xs) f = (other_key j (key x) (key_eq (key x) j) refl f.0, others key j xs f.1)
-
--- x is alike the next, whose run it joins
-joined : (key : Leaf → Key) (k : Key) (p : Leaf → Bool) (x y : Leaf) (r ys : List Leaf) (rest : List (Leaf × List Leaf)) (t : Bool) → key_eq (key x) k ≡ t → key y ≡ key x →
-    ((x : Leaf) → key_eq (key x) k ≡ false → p x ≡ false) → find p (y ∷ ys) ≡ cond (key_eq (key y) k) (find p (y ∷ r)) (in_runs key k p rest) →
-    find p (x ∷ y ∷ ys) ≡ cond t (find p (x ∷ y ∷ r)) (in_runs key k p rest)
-joined key k p x y r ys rest true e same only h =
-    ap (cond (p x) (Some x)) (h ∙ ap (λ (b : Bool). cond b (find p (y ∷ r)) (in_runs key k p rest)) (ap (λ (n : Key). key_eq n k) same ∙ e))
-joined key k p x y r ys rest false e same only h =
-    ap (λ (b : Bool). cond b (Some x) (find p (y ∷ ys))) (only x e) ∙ h
-    ∙ ap (λ (b : Bool). cond b (find p (y ∷ r)) (in_runs key k p rest)) (ap (λ (n : Key). key_eq n k) same ∙ e)
 
 -- x is a run of its own, and no later leaf has its key
 apart : (key : Leaf → Key) (k : Key) (p : Leaf → Bool) (x : Leaf) (ys : List Leaf) (more : Option Leaf) (t : Bool) → key_eq (key x) k ≡ t → Each (λ z. key_before (key x) (key z) ≡ true) ys →
@@ -148,7 +105,7 @@ found_at : (same : Leaf → Leaf → Bool) (key : Leaf → Key) (k : Key) (p : L
 found_at same key k p x y r ys rest c only h =
     ⊎_elim
     (λ (e : (same x y ≡ true) × (key y ≡ key x)).
-    joined key k p x y r ys rest (key_eq (key x) k) refl e.1 only h
+    grind (arith, e.1)
     ∙ ap (λ (b : Bool). in_runs key k p (if b then (x, y ∷ r) ∷ rest else (x, []) ∷ (y, r) ∷ rest)) (sym e.0))
     (λ (e : (same x y ≡ false) × (key_before (key x) (key y) ≡ true)).
     apart key k p x (y ∷ ys) (in_runs key k p ((y, r) ∷ rest)) (key_eq (key x) k) refl
@@ -167,8 +124,7 @@ find_in_runs same key k p (x ∷ y ∷ ys) c only =
     let r : List Leaf = take (n - 1) ys in
     let rest : List (Leaf × List Leaf) = runs same (drop n (y ∷ ys)) in
     let e : runs same (y ∷ ys) ≡ (y, r) ∷ rest = first_run same y ys in
-    found_at same key k p x y r ys rest c only (find_in_runs same key k p (y ∷ ys) c.1 only ∙ ap (in_runs key k p) e)
-    ∙ ap (λ (l : List (Leaf × List Leaf)). in_runs key k p (in_front same x l)) (sym e)
+    simp (found_at same key k p x y r ys rest c only (find_in_runs same key k p (y ∷ ys) c.1 only ∙ ap (in_runs key k p) e), e)
 
 -- ---- sorted leaves climb
 
@@ -180,32 +136,16 @@ name_step_at : (x y : Leaf) (t : Bool) → key_eq x.name y.name ≡ t → same_t
 name_step_at x y true e s h = inl (rw (s, e) refl, sym (same_keys x.name y.name e))
 name_step_at x y false e s h = inr (rw (s, e) refl, h)
 
-name_step : (x y : Leaf) → same_type x y ≡ true → leaf_before x y ≡ true → Step same_resource (λ x. x.name) x y
-name_step x y s h =
-    name_step_at x y (key_eq x.name y.name) refl s (sym (ap (λ (t : Bool). if t then (if key_eq x.name y.name then nat_lt x.language y.language else key_before x.name y.name) else key_before x.resource_type y.resource_type) s) ∙ h)
-
-and_first : (a b : Bool) → (a && b) ≡ true → a ≡ true
-and_first true b h = refl
-and_first false b h = h
-
-and_second : (a b : Bool) → (a && b) ≡ true → b ≡ true
-and_second true b h = h
-and_second false b h = absurd (false≢true h)
-
 types_climb : (xs : List Leaf) → is_sorted xs ≡ true → Climbs same_type (λ x. x.resource_type) xs
 unfolding is_sorted
 types_climb [] h = tt
 types_climb (x ∷ []) h = tt
 types_climb (x ∷ y ∷ ys) h =
-    (type_step x y (same_type x y) refl (and_first (leaf_before x y) (is_sorted (y ∷ ys)) h), types_climb (y ∷ ys) (and_second (leaf_before x y) (is_sorted (y ∷ ys)) h))
+    (type_step x y (same_type x y) refl (both (leaf_before x y) (is_sorted (y ∷ ys)) h).0, types_climb (y ∷ ys) (both (leaf_before x y) (is_sorted (y ∷ ys)) h).1)
 
 -- so do the names of each type
 abbrev NamesClimb : List (Leaf × List Leaf) → Type 0
 NamesClimb rs = Each (λ r. Climbs same_resource (λ x. x.name) (elements r)) rs
-
-names_climb_at : (x y : Leaf) (r : List Leaf) (rest : List (Leaf × List Leaf)) (t : Bool) → same_type x y ≡ t → leaf_before x y ≡ true → NamesClimb ((y, r) ∷ rest) → NamesClimb (if t then (x, y ∷ r) ∷ rest else (x, []) ∷ (y, r) ∷ rest)
-names_climb_at x y r rest true e h c = ((name_step x y e h, c.0), c.1)
-names_climb_at x y r rest false e h c = (tt, c)
 
 names_climb : (xs : List Leaf) → is_sorted xs ≡ true → NamesClimb (runs same_type xs)
 unfolding is_sorted runs
@@ -216,9 +156,9 @@ names_climb (x ∷ y ∷ ys) h =
     let r : List Leaf = take (n - 1) ys in
     let rest : List (Leaf × List Leaf) = runs same_type (drop n (y ∷ ys)) in
     let e : runs same_type (y ∷ ys) ≡ (y, r) ∷ rest = first_run same_type y ys in
-    let below : NamesClimb ((y, r) ∷ rest) = subst NamesClimb e (names_climb (y ∷ ys) (and_second (leaf_before x y) (is_sorted (y ∷ ys)) h)) in
+    let below : NamesClimb ((y, r) ∷ rest) = subst NamesClimb e (names_climb (y ∷ ys) (both (leaf_before x y) (is_sorted (y ∷ ys)) h).1) in
     subst (λ (l : List (Leaf × List Leaf)). NamesClimb (in_front same_type x l)) (sym e)
-    (names_climb_at x y r rest (same_type x y) refl (and_first (leaf_before x y) (is_sorted (y ∷ ys)) h) below)
+    (grind (arith, name_step_at, (both (leaf_before x y) (is_sorted (y ∷ ys)) h).0))
 
 -- ---- the search, level by level
 
@@ -248,12 +188,8 @@ in_names_is kind name l kt (r ∷ rs) h et en =
     (each_left (λ x. x.resource_type ≡ kt) (elements r) (flat_map elements rs) et) (refl, en.0)
     (in_names_is kind name l kt rs h (each_right (λ x. x.resource_type ≡ kt) (elements r) (flat_map elements rs) et) en.1)
 
-and_false : (a : Bool) → (a && false) ≡ false
-and_false true = refl
-and_false false = refl
-
 only_name : (kind name : Key) (l : ℕ) (x : Leaf) → key_eq x.name name ≡ false → has_keys kind name l x ≡ false
-only_name kind name l x h = ap (λ (t : Bool). key_eq x.resource_type kind && (t && x.language == l)) h ∙ and_false (key_eq x.resource_type kind)
+only_name kind name l x h = grind arith
 
 only_type : (kind name : Key) (l : ℕ) (x : Leaf) → key_eq x.resource_type kind ≡ false → has_keys kind name l x ≡ false
 only_type kind name l x h = ap (λ (t : Bool). t && (key_eq x.name name && x.language == l)) h
@@ -267,13 +203,11 @@ in_names_of kind name l r h et c =
 
 in_types_at : (kind name : Key) (l : ℕ) (r : Leaf × List Leaf) (f g : Option Leaf) (t : Bool) → key_eq (type_key r) kind ≡ t → EachHas (λ x. x.resource_type) (type_key r) (elements r) → Climbs same_resource (λ x. x.name) (elements r) → f ≡ g →
     cond t (find (has_keys kind name l) (elements r)) f ≡ cond t (in_names name l (names_of r)) g
-in_types_at kind name l r f g true e et c h = in_names_of kind name l r e et c
-in_types_at kind name l r f g false e et c h = h
+in_types_at kind name l r f g t e et c h = grind (arith, in_names_of)
 
 in_types_is : (kind name : Key) (l : ℕ) (rs : List (Leaf × List Leaf)) → RunsAlike (λ x. x.resource_type) rs → NamesClimb rs → in_runs (λ x. x.resource_type) kind (has_keys kind name l) rs ≡ in_types kind name l rs
 in_types_is kind name l [] et c = refl
-in_types_is kind name l (r ∷ rs) et c =
-    in_types_at kind name l r (in_runs (λ x. x.resource_type) kind (has_keys kind name l) rs) (in_types kind name l rs) (key_eq (type_key r) kind) refl (refl, et.0) c.0 (in_types_is kind name l rs et.1 c.1)
+in_types_is kind name l (r ∷ rs) et c = grind (arith, in_types_at, in_types, in_types_is kind name l rs et.1 c.1)
 
 sorted_search : (kind name : Key) (l : ℕ) (xs : List Leaf) → is_sorted xs ≡ true → with_keys kind name l xs ≡ in_types kind name l (types_of xs)
 unfolding types_of

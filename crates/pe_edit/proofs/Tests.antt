@@ -1,18 +1,10 @@
 -- What leaves have to pass, one after the other.
-use Rattle.std.proofs.Common.{◌≡◌, ℕ, ◌+◌, ◌-◌, ◌<◌, ◌≤◌, ◌&&◌, Bool, true, false, List, [], ◌∷◌, length, drop, get_or, Option, Some, None, Result, Ok, Err, ap, refl, sym, ◌∙◌, arith, length-drop}
-use Rattle.std.specs.Prelude.{◌%◌, ◌==◌, if◌then◌else◌, nat_lt}
-use Rattle.std.specs.List.{list_all}
-use Rattle.std.proofs.lemmas.Bool.Decides.{nat_tests}
-use Rattle.std.proofs.lemmas.List.{drop_all}
-use Rattle.pe_core.specs.Refusals.{outcome}
-use Rattle.pe_edit.specs.declared.layout.Layout.{Layout}
-use Rattle.pe_edit.specs.declared.section.Measured.{Measured}
-use Rattle.pe_edit.specs.EditRefusals.{EditRefusal, leaf_tests, section_of}
+use Rattle.std.proofs.Common.{◌≡◌, ℕ, ◌+◌, ◌-◌, ◌<◌, ◌≤◌, ◌&&◌, Bool, true, false, List, [], ◌∷◌, length, drop, get_or, Option, Some, None, Ok, Err, ap, refl, sym, ◌∙◌, arith, length-drop}
+use Rattle.pe_edit.proofs.Cited.{if◌then◌else◌, nat_lt, list_all, nat_tests, drop_all, outcome, Layout, leaf_tests, section_of}
+use Rattle.pe_edit.proofs.Cited.{end_below, measured_of, is_sorted, leaf_before, no_leaf, Accepted, Each, Fits, Key, KeyFits, Leaf}
+use Rattle.pe_edit.proofs.Cited.{LeafFits, NameFits, NamesFit, KeyNumber, Numbers, layout_of, name_fits, names_fit, padded_length}
+use Rattle.pe_edit.proofs.Cited.{padded_size, section, section_length, total, both}
 use Rattle.pe_edit.specs.EditRefusals as refusals
-use Rattle.pe_edit.specs.Levels.{end_below, measured_of}
-use Rattle.pe_edit.specs.Sorted.{is_sorted, leaf_before}
-use Rattle.pe_edit.specs.Views.{no_leaf}
-use Rattle.pe_edit.specs.Written.{Accepted, Each, Fits, Id, Key, KeyFits, Leaf, LeafFits, Name, NameFits, NamesFit, KeyNumber, Numbers, layout_of, name_fits, names_fit, padded_length, padded_size, section, section_length, total}
 use Rattle.pe_edit.proofs.Reading.{padded_more}
 use Rattle.pe_edit.proofs.RunsAt.{leaf_at}
 
@@ -32,17 +24,14 @@ all_fit xs i h f = sym f ∙ ap (list_all names_fit) (drop_all i xs h)
 
 -- ---- the order
 
-two_at : (xs : List Leaf) (i : ℕ) (x : Leaf) → 0 < i → i < length xs → x ≡ get_or xs (i - 1) no_leaf → drop (i - 1) xs ≡ x ∷ drop i xs
-two_at xs i x some h q =
-    leaf_at xs (i - 1) x (omega (arith, some, h)) q ∙ ap (λ (k : ℕ). x ∷ drop k xs) (omega (arith, some))
-
 sorted_cons : (x y : Leaf) (ys zs : List Leaf) → zs ≡ y ∷ ys → is_sorted (x ∷ zs) ≡ (leaf_before x y && is_sorted zs)
 unfolding is_sorted
 sorted_cons x y ys zs e = ap (λ (l : List Leaf). is_sorted (x ∷ l)) e ∙ ap (λ (l : List Leaf). leaf_before x y && is_sorted l) (sym e)
 
 sorted_at : (xs : List Leaf) (i : ℕ) (x y : Leaf) → 0 < i → i < length xs → x ≡ get_or xs (i - 1) no_leaf → y ≡ get_or xs i no_leaf → is_sorted (drop (i - 1) xs) ≡ (leaf_before x y && is_sorted (drop i xs))
 sorted_at xs i x y some h p q =
-    ap is_sorted (two_at xs i x some h p) ∙ sorted_cons x y (drop (i + 1) xs) (drop i xs) (leaf_at xs i y h q)
+    ap is_sorted (leaf_at xs (i - 1) x (omega (arith, some, h)) p ∙ ap (λ (k : ℕ). x ∷ drop k xs) (omega (arith, some)))
+    ∙ sorted_cons x y (drop (i + 1) xs) (drop i xs) (leaf_at xs i y h q)
 
 pub more_sorted : (xs : List Leaf) (i : ℕ) (x y : Leaf) → 0 < i → i < length xs → x ≡ get_or xs (i - 1) no_leaf → y ≡ get_or xs i no_leaf → leaf_before x y ≡ true → is_sorted (drop (i - 1) xs) ≡ is_sorted xs → is_sorted (drop (i + 1 - 1) xs) ≡ is_sorted xs
 more_sorted xs i x y some h p q e f =
@@ -80,37 +69,16 @@ no_end m h = let t : nat_lt m 4294967296 ≡ false = grind (arith, nat_tests, h)
 
 -- ---- what leaves that pass are
 
-first_of : (a b : Bool) → (a && b) ≡ true → a ≡ true
-first_of true b h = refl
-first_of false b h = h
-
-second_of : (a b : Bool) → (a && b) ≡ true → b ≡ true
-second_of true b h = h
-second_of false b h = absurd cc
-
 name_passes : (k : Key) → name_fits k ≡ true → NameFits k
-name_passes (Id n) h = tt
-name_passes (Name u) h =
-    let even : (length u % 2 == 0) ≡ true = first_of (length u % 2 == 0) (nat_lt (length u) 131072) h in
-    let small : nat_lt (length u) 131072 ≡ true = second_of (length u % 2 == 0) (nat_lt (length u) 131072) h in
-    (grind (arith, nat_tests, even), grind (arith, nat_tests, small))
+name_passes k h = grind (arith, both, nat_tests)
 
 pub each_passes : (xs : List Leaf) → list_all names_fit xs ≡ true → Each NamesFit xs
 each_passes [] h = tt
 each_passes (x ∷ xs) h =
-    let one : names_fit x ≡ true = first_of (names_fit x) (list_all names_fit xs) h in (
-      (name_passes x.resource_type (first_of (name_fits x.resource_type) (name_fits x.name) one), name_passes x.name (second_of (name_fits x.resource_type) (name_fits x.name) one)),
-      each_passes xs (second_of (names_fit x) (list_all names_fit xs) h),
+    let one : names_fit x ≡ true = (both (names_fit x) (list_all names_fit xs) h).0 in (
+      (name_passes x.resource_type (both (name_fits x.resource_type) (name_fits x.name) one).0, name_passes x.name (both (name_fits x.resource_type) (name_fits x.name) one).1),
+      each_passes xs (both (names_fit x) (list_all names_fit xs) h).1,
     )
-
--- five tests that all pass
-five : {Y R : Type 0} (a b c d e : Bool) (j k l m n : R) (v w : Y) → outcome ((a, j) ∷ (b, k) ∷ (c, l) ∷ (d, m) ∷ (e, n) ∷ []) v ≡ Ok w → (a ≡ true) × (b ≡ true) × (c ≡ true) × (d ≡ true) × (e ≡ true)
-five true true true true true j k l m n v w h = (refl, refl, refl, refl, refl)
-five true true true true false j k l m n v w h = absurd cc
-five true true true false e j k l m n v w h = absurd cc
-five true true false d e j k l m n v w h = absurd cc
-five true false c d e j k l m n v w h = absurd cc
-five false b c d e j k l m n v w h = absurd cc
 
 -- leaves that pass fit, and are sorted
 pub record Passes (rva : ℕ) (xs : List Leaf) : Type 0 where
@@ -118,27 +86,10 @@ pub record Passes (rva : ℕ) (xs : List Leaf) : Type 0 where
   pub sorted : is_sorted xs ≡ true
 
 pub tests_pass : {Y : Type 0} (rva : ℕ) (xs : List Leaf) (v w : Y) → outcome (leaf_tests rva xs) v ≡ Ok w → Passes rva xs
-tests_pass rva xs v w h =
-    let all = five (nat_lt (length xs) 65536) (list_all names_fit xs) (is_sorted xs) (nat_lt (layout_of xs).contents 2147483648) (nat_lt (rva + section_length xs) 4294967296) _ _ _ _ _ v w h in
-    let few : nat_lt (length xs) 65536 ≡ true = all.0 in
-    let low : nat_lt (layout_of xs).contents 2147483648 ≡ true = all.3 in
-    let end : nat_lt (rva + section_length xs) 4294967296 ≡ true = all.4 in
-    record {
-      fit = record {
-        few = grind (arith, nat_tests, few);
-        names = each_passes xs all.1;
-        tables = grind (arith, nat_tests, low);
-        end = grind (arith, nat_tests, end);
-      };
-      sorted = all.2;
-    }
+tests_pass rva xs v w h = grind (arith, nat_tests, each_passes)
 
 name_tested : (k : Key) → NameFits k → name_fits k ≡ true
-name_tested (Id n) f = refl
-name_tested (Name u) f =
-    let even : (length u % 2 == 0) ≡ true = grind (arith, nat_tests, f.0) in
-    let small : nat_lt (length u) 131072 ≡ true = grind (arith, nat_tests, f.1) in
-    rw (even, small) refl
+name_tested k f = grind (arith, nat_tests)
 
 each_tested : (xs : List Leaf) → Each NamesFit xs → list_all names_fit xs ≡ true
 each_tested [] f = refl
@@ -149,11 +100,7 @@ by_tests a b c d e j k l m n v ha hb hc hd he = rw (ha, hb, hc, hd, he) refl
 
 -- leaves that fit and are sorted pass
 pub passes : (rva : ℕ) (xs : List Leaf) → Accepted rva xs → is_sorted xs ≡ true → section_of rva xs ≡ Ok (section rva xs)
-passes rva xs f s =
-    by_tests (nat_lt (length xs) 65536) (list_all names_fit xs) (is_sorted xs) (nat_lt (layout_of xs).contents 2147483648) (nat_lt (rva + section_length xs) 4294967296) _ _ _ _ _ (section rva xs)
-    (let few : length xs < 65536 = f.few in grind (arith, nat_tests, few)) (each_tested xs f.names) s
-    (let low : (layout_of xs).contents < 2147483648 = f.tables in grind (arith, nat_tests, low))
-    (let end : rva + section_length xs < 4294967296 = f.end in grind (arith, nat_tests, end))
+passes rva xs f s = grind (arith, by_tests, nat_tests, each_tested)
 
 pub section_fits : (rva : ℕ) (xs : List Leaf) (s : List ℕ) → section_of rva xs ≡ Ok s → Accepted rva xs
 section_fits rva xs s h = let p : Passes rva xs = tests_pass rva xs (section rva xs) s h in p.fit
@@ -161,16 +108,12 @@ section_fits rva xs s h = let p : Passes rva xs = tests_pass rva xs (section rva
 pub section_is_sorted : (rva : ℕ) (xs : List Leaf) (s : List ℕ) → section_of rva xs ≡ Ok s → is_sorted xs ≡ true
 section_is_sorted rva xs s h = let p : Passes rva xs = tests_pass rva xs (section rva xs) s h in p.sorted
 
-same_value : {X : Type 0} (r : Result X EditRefusal) (x y : X) → r ≡ Ok x → r ≡ Ok y → x ≡ y
-same_value r x y e f = cc
-
 pub section_is : (rva : ℕ) (xs : List Leaf) (s : List ℕ) → section_of rva xs ≡ Ok s → s ≡ section rva xs
-section_is rva xs s h = same_value (section_of rva xs) s (section rva xs) h (passes rva xs (section_fits rva xs s h) (section_is_sorted rva xs s h))
+section_is rva xs s h = grind (arith, passes, section_fits, section_is_sorted)
 
 -- accepted leaves whose numbers have as many bits as the types of the code fit
 key_numbers : (k : Key) → NameFits k → KeyNumber k → KeyFits k
-key_numbers (Id n) f h = h
-key_numbers (Name u) f h = f
+key_numbers k f h = grind arith
 
 leaf_numbers : (xs : List Leaf) → Each NamesFit xs → Each Numbers xs → Each LeafFits xs
 leaf_numbers [] f h = tt
@@ -190,51 +133,24 @@ accepted_fit rva xs a h = record { few = a.few; each = leaf_numbers xs a.names h
 -- ---- the layout that is returned
 
 pub one_test : {Y R : Type 0} (a : Bool) (r : R) (v w : Y) → outcome ((a, r) ∷ []) v ≡ Ok w → a ≡ true
-one_test true r v w h = refl
-one_test false r v w h = absurd cc
-
-measured_by : (k l : Layout) (m n : ℕ) → k ≡ l → m ≡ n → ◌≡◌ {A = Measured} (record { layout = k; length = m }) (record { layout = l; length = n })
-measured_by k l m n h i = rw (h, i) refl
+one_test a r v w h = grind arith
 
 pub layout_returned : (rva : ℕ) (xs : List Leaf) (l : Layout) (n : ℕ) → length xs < 65536 → list_all names_fit xs ≡ true → is_sorted xs ≡ true → l ≡ layout_of xs → l.contents < 2147483648 → rva + section_length xs < 4294967296 → n ≡ section_length xs →
     outcome (leaf_tests rva xs) (measured_of xs) ≡ Ok (record { layout = l; length = n })
-layout_returned rva xs l n few names sorted is low end size =
-    let low2 : (layout_of xs).contents < 2147483648 = omega (arith, low, ap (λ (k : Layout). k.contents) is) in
-    by_tests (nat_lt (length xs) 65536) (list_all names_fit xs) (is_sorted xs) (nat_lt (layout_of xs).contents 2147483648) (nat_lt (rva + section_length xs) 4294967296) _ _ _ _ _ (measured_of xs)
-    (grind (arith, nat_tests, few)) names sorted (grind (arith, nat_tests, low2)) (grind (arith, nat_tests, end))
-    ∙ ap (λ (m : Measured). Ok m) (measured_by (layout_of xs) l (section_length xs) n (sym is) (sym size))
-
-four_then_not : {Y R : Type 0} (a b c d e : Bool) (j k l m n : R) (v : Y) → a ≡ true → b ≡ true → c ≡ true → d ≡ true → e ≡ false → outcome ((a, j) ∷ (b, k) ∷ (c, l) ∷ (d, m) ∷ (e, n) ∷ []) v ≡ Err n
-four_then_not a b c d e j k l m n v ha hb hc hd he = rw (ha, hb, hc, hd, he) refl
+layout_returned rva xs l n few names sorted is low end size = grind (arith, by_tests, nat_tests)
 
 pub too_large : (rva : ℕ) (xs : List Leaf) (l : Layout) → length xs < 65536 → list_all names_fit xs ≡ true → is_sorted xs ≡ true → l ≡ layout_of xs → l.contents < 2147483648 → 4294967296 ≤ rva + section_length xs →
     outcome (leaf_tests rva xs) (measured_of xs) ≡ Err refusals.TooLarge
-too_large rva xs l few names sorted is low end =
-    let low2 : (layout_of xs).contents < 2147483648 = omega (arith, low, ap (λ (k : Layout). k.contents) is) in
-    four_then_not (nat_lt (length xs) 65536) (list_all names_fit xs) (is_sorted xs) (nat_lt (layout_of xs).contents 2147483648) (nat_lt (rva + section_length xs) 4294967296) _ _ _ _ _ (measured_of xs)
-    (grind (arith, nat_tests, few)) names sorted (grind (arith, nat_tests, low2)) (grind (arith, nat_tests, end))
-
-some_below : (m n : ℕ) (t : Bool) → nat_lt m 4294967296 ≡ t → Some n ≡ (if t then Some m else None) → (m < 4294967296) × (n ≡ m)
-some_below m n true e h = (grind (arith, nat_tests, e), cc)
-some_below m n false e h = absurd cc
-
-none_below : (m : ℕ) (t : Bool) → nat_lt m 4294967296 ≡ t → ◌≡◌ {A = Option ℕ} None (if t then Some m else None) → 4294967296 ≤ m
-none_below m true e h = absurd cc
-none_below m false e h = grind (arith, nat_tests, e)
+too_large rva xs l few names sorted is low end = grind (arith, nat_tests)
 
 -- what the end of the contents says of the length
 pub ends_some : (rva start n : ℕ) (xs : List Leaf) (l : Layout) → l ≡ layout_of xs → start ≡ rva + l.contents → Some n ≡ end_below start xs → (rva + section_length xs < 4294967296) × (n ≡ rva + section_length xs)
 unfolding section_length
-ends_some rva start n xs l is at h =
-    let sum : start + total padded_size xs ≡ rva + ((layout_of xs).contents + total padded_size xs) = omega (arith, at, ap (λ (k : Layout). k.contents) is) in
-    let both : (start + total padded_size xs < 4294967296) × (n ≡ start + total padded_size xs) = some_below (start + total padded_size xs) n (nat_lt (start + total padded_size xs) 4294967296) refl h in
-    (omega (arith, both.0, sum), omega (arith, both.1, sum))
+ends_some rva start n xs l is at h = grind (arith, both, nat_tests)
 
 pub ends_none : (rva start : ℕ) (xs : List Leaf) (l : Layout) → l ≡ layout_of xs → start ≡ rva + l.contents → None ≡ end_below start xs → 4294967296 ≤ rva + section_length xs
 unfolding section_length
-ends_none rva start xs l is at h =
-    let sum : start + total padded_size xs ≡ rva + ((layout_of xs).contents + total padded_size xs) = omega (arith, at, ap (λ (k : Layout). k.contents) is) in
-    omega (arith, none_below (start + total padded_size xs) (nat_lt (start + total padded_size xs) 4294967296) refl h, sum)
+ends_none rva start xs l is at h = grind (arith, nat_tests)
 
 -- the contents end after 4 GB: by one of them, or by those up to one
 pub content_too_large : (xs : List Leaf) (start end i : ℕ) (x : Leaf) → i < length xs → x ≡ get_or xs i no_leaf → end + total padded_size (drop i xs) ≡ start + total padded_size xs → 4294967296 ≤ length x.content →

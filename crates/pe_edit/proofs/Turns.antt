@@ -1,12 +1,9 @@
 -- One turn of each loop over the leaves of entries.
-use Rattle.std.proofs.Common.{◌≡◌, ℕ, ◌+◌, List, length, subst, sym}
+use Rattle.std.proofs.Common.{◌≡◌, ℕ, ◌+◌, List, length, subst, sym, arith}
 use Rattle.std.proofs.Common.{◌++◌}
-use Rattle.pe_core.specs.Bytes.{bytes_of, splice}
-use Rattle.pe_edit.specs.declared.directories.Cursor.{Cursor}
-use Rattle.pe_edit.specs.declared.level.Level.{Level}
-use Rattle.pe_edit.specs.declared.level.Measure.{Measure}
-use Rattle.pe_edit.specs.Levels.{IsRunAt, above, after_directory, key_at, key_of_run, runs_of, size_at, size_of_run}
-use Rattle.pe_edit.specs.Written.{Each, Key, Leaf, NameFits, NamesFit, directory_to, key_number, name_bytes, name_size, named}
+use Rattle.pe_edit.proofs.Cited.{bytes_of, splice, Cursor, Level, Measure, IsRunAt, above, after_directory, key_at, key_of_run}
+use Rattle.pe_edit.proofs.Cited.{runs_of, size_at, size_of_run, Each, Key, Leaf, NameFits, NamesFit, directory_to, key_number}
+use Rattle.pe_edit.proofs.Cited.{name_bytes, name_size, named}
 use Rattle.pe_edit.proofs.DirectoryLoops.{DirectoriesWritten, more_directories_written}
 use Rattle.pe_edit.proofs.Entries.{EntriesWritten, Measured, NamesWritten, more_entries_written, more_measured, more_names_written}
 use Rattle.pe_edit.proofs.RunsAt.{run_key_fits}
@@ -19,9 +16,7 @@ measure_turn level xs run size start sum next key z k f e m en ed es =
 
 pub names_turn : (old now next : List ℕ) (at end after : ℕ) (level : Level) (xs run : List Leaf) (size start : ℕ) (key : Key) → size ≡ length run → IsRunAt level xs start run → key ≡ key_of_run level run → NamesWritten old now at end level xs start →
     next ≡ splice now end (name_bytes key) → after ≡ end + length (name_bytes key) → NamesWritten old next at after level xs (start + size)
-names_turn old now next at end after level xs run size start key z k e w f g =
-    subst (λ (n : ℕ). NamesWritten old next at after level xs (start + n)) (sym z)
-    (more_names_written old now next at end after level xs run start key k e w f g)
+names_turn old now next at end after level xs run size start key z k e w f g = grind (arith, more_names_written)
 
 pub entries_turn : (old now next : List ℕ) (at c d : Cursor) (level : Level) (xs run : List Leaf) (size start m : ℕ) (key : Key) → size ≡ length run → IsRunAt level xs start run → key ≡ key_of_run level run → EntriesWritten old now at c level xs start →
     m ≡ key_number c.name key → next ≡ splice now c.end (bytes_of 4 m ++ bytes_of 4 c.part) → d.end ≡ c.end + 8 → d.name ≡ c.name + name_size key → d.part ≡ c.part + size_of_run level run →

@@ -1,8 +1,6 @@
 -- Bytes that are written one after the other into a buffer.
 use Rattle.std.proofs.Common.{◌≡◌, ℕ, ◌+◌, ◌≤◌, List, [], ◌++◌, length, take, drop, ap, refl, sym, ◌∙◌, arith, length-append}
-use Rattle.std.proofs.lemmas.List.{append-nil, append_assoc, take-append-drop}
-use Rattle.pe_core.specs.Bytes.{splice}
-use Rattle.pe_core.proofs.Splices.{length-splice, splice-splice}
+use Rattle.pe_edit.proofs.Cited.{append-nil, append_assoc, take-append-drop, splice, length-splice, splice-splice}
 
 -- the first bytes of all are written from an offset up to another, and these are left
 pub record Written (old now : List ℕ) (at end : ℕ) (all rest : List ℕ) : Type 0 where
@@ -20,9 +18,7 @@ pub nothing_written : (old : List ℕ) (at : ℕ) (all : List ℕ) → at + leng
 nothing_written old at all h = record { done = []; count = omega arith; joined = refl; is = sym (splice_none old at (omega (arith, h))); room = h }
 
 pub length_written : (old now : List ℕ) (at end : ℕ) (all rest : List ℕ) → Written old now at end all rest → length now ≡ length old
-length_written old now at end all rest w =
-    let size : length all ≡ length w.done + length rest = ap length w.joined ∙ length-append w.done rest in
-    ap length w.is ∙ length-splice old at w.done (omega (arith, size, w.room))
+length_written old now at end all rest w = grind (arith, length-append, length-splice)
 
 -- what is left fits where it comes next
 pub room_for : (old now : List ℕ) (at end : ℕ) (all x rest : List ℕ) → Written old now at end all (x ++ rest) → end + length x ≤ length now
@@ -31,23 +27,11 @@ room_for old now at end all x rest w =
     omega (arith, length_written old now at end all (x ++ rest) w, size, w.room, w.count, length-append x rest)
 
 pub more_written : (old now next : List ℕ) (at end after : ℕ) (all x rest : List ℕ) → Written old now at end all (x ++ rest) → next ≡ splice now end x → after ≡ end + length x → Written old next at after all rest
-more_written old now next at end after all x rest w e f =
-    let size : length all ≡ length w.done + length (x ++ rest) = ap length w.joined ∙ length-append w.done (x ++ rest) in
-    record {
-      done = w.done ++ x;
-      count = omega (arith, length-append w.done x, w.count, f);
-      joined = w.joined ∙ sym (append_assoc w.done x rest);
-      is = e ∙ ap (λ (b : List ℕ). splice b end x) w.is ∙ ap (λ (p : ℕ). splice (splice old at w.done) p x) (sym w.count) ∙ splice-splice old at w.done x (omega (arith, w.room));
-      room = w.room;
-    }
+more_written old now next at end after all x rest w e f = grind (arith, length-append, append_assoc, splice-splice)
 
 pub all_written : (old now : List ℕ) (at end : ℕ) (all rest : List ℕ) → rest ≡ [] → Written old now at end all rest → now ≡ splice old at all
-all_written old now at end all rest none w =
-    let same : all ≡ w.done = w.joined ∙ ap (λ (l : List ℕ). w.done ++ l) none ∙ append-nil w.done in
-    w.is ∙ ap (splice old at) (sym same)
+all_written old now at end all rest none w = grind (arith, append-nil)
 
 -- the last part of all is written
 pub last_written : (old now next : List ℕ) (at end : ℕ) (all x : List ℕ) → Written old now at end all x → next ≡ splice now end x → next ≡ splice old at all
-last_written old now next at end all x w e =
-    let size : length all ≡ length w.done + length x = ap length w.joined ∙ length-append w.done x in
-    e ∙ ap (λ (b : List ℕ). splice b end x) w.is ∙ ap (λ (p : ℕ). splice (splice old at w.done) p x) (sym w.count) ∙ splice-splice old at w.done x (omega (arith, w.room)) ∙ ap (splice old at) (sym w.joined)
+last_written old now next at end all x w e = grind (arith, length-append, splice-splice)

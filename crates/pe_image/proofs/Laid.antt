@@ -1,19 +1,13 @@
 -- Records that are written field by field.
-use Rattle.std.proofs.Common.{◌≡◌, ℕ, ◌+◌, ◌*◌, ◌≤◌, ◌<◌, Bool, true, false, cond, List, [], ◌∷◌, ◌++◌, length, get_or, take, ne_eqb, refl, sym, ◌∙◌, arith}
-use Rattle.std.specs.Prelude.{◌==◌}
-use Rattle.std.specs.List.{flat_map}
-use Rattle.std.proofs.lemmas.Grind.{flat_map-append}
-use Rattle.std.proofs.lemmas.List.{append-nil, length-append, take-append-drop, take_more}
-use Rattle.pe_core.proofs.Splices.{length-bytes_of, splice-splice}
-use Rattle.pe_core.specs.Bytes.{bytes_of, splice}
-use Rattle.pe_core.specs.Header.{OptionalHeaderView}
-use Rattle.pe_core.specs.Spelling.{spell_coff, spell_directory, spell_dos, spell_optional, spell_section, spell_standard_fields_32, spell_standard_fields_64, spell_windows_fields_32, spell_windows_fields_64}
-use Rattle.pe_core.specs.declared.data_directories.DataDirectory.{DataDirectory}
+use Rattle.std.proofs.Common.{◌≡◌, ℕ, ◌+◌, ◌*◌, ◌≤◌, ◌<◌, cond, List, [], ◌∷◌, ◌++◌, length, get_or, take, refl, sym, arith}
+use Rattle.pe_image.proofs.Cited.{◌==◌, flat_map, flat_map-append, append-nil, length-append, take-append-drop, take_more}
+use Rattle.pe_image.proofs.Cited.{length-bytes_of, splice-splice, bytes_of, splice, OptionalHeaderView, spell_coff, spell_directory}
+use Rattle.pe_image.proofs.Cited.{spell_dos, spell_optional, spell_section, spell_standard_fields_32, spell_standard_fields_64}
+use Rattle.pe_image.proofs.Cited.{spell_windows_fields_32, spell_windows_fields_64, DataDirectory, SectionTable}
 use Rattle.pe_core.specs.declared.header.CoffHeader.{CoffHeader}
 use Rattle.pe_core.specs.declared.header.DosHeader.{DosHeader}
 use Rattle.pe_core.specs.declared.optional_header.StandardFields.{StandardFields}
 use Rattle.pe_core.specs.declared.optional_header.WindowsFields.{WindowsFields}
-use Rattle.pe_core.specs.declared.section_table.SectionTable.{SectionTable}
 
 -- the bytes x, n of them, are put at p: the bytes b have become now
 pub record Laid (b : List ℕ) (p n : ℕ) (now x : List ℕ) : Type 0 where
@@ -25,11 +19,7 @@ pub laid_first : {b now : List ℕ} {p : ℕ} (x : List ℕ) (n : ℕ) → p ≤
 laid_first x n h l e = record { inside = h; count = l; same = e }
 
 pub laid_next : {b old now x : List ℕ} {p n : ℕ} (y : List ℕ) (m : ℕ) → Laid b p n old x → length y ≡ m → now ≡ splice old (p + n) y → Laid b p (n + m) now (x ++ y)
-laid_next {b} {old} {now} {x} {p} {n} y m l k e =
-    let j : splice (splice b p x) (p + length x) y ≡ splice b p (x ++ y) = splice-splice b p x y l.inside in
-    let c : length x ≡ n = l.count in
-    let f : now ≡ splice (splice b p x) (p + n) y = rw (← l.same) e in
-    record { inside = l.inside; count = omega (arith, length-append x y, l.count, k); same = f ∙ (rw c at j) }
+laid_next y m l k e = grind (arith, splice-splice, length-append)
 
 -- a number of w bytes is written at the offset, or after what is written there
 pub number_first : {b now : List ℕ} {p : ℕ} (w v : ℕ) → p ≤ length b → now ≡ splice b p (bytes_of w v) → Laid b p w now (bytes_of w v)
@@ -76,13 +66,10 @@ pub length_directories : (rows : List DataDirectory) → length (flat_map spell_
 length_directories [] = refl
 length_directories (d ∷ rows) = simp length-append (omega (arith, length_directory d, length_directories rows))
 
-fields_length : (t : Bool) (s : StandardFields) (w : WindowsFields) → length (cond t (spell_standard_fields_64 s ++ spell_windows_fields_64 w) (spell_standard_fields_32 s ++ spell_windows_fields_32 w)) ≡ cond t 112 96
-fields_length true s w = simp (length-append, length_standard64, length_windows64) refl
-fields_length false s w = simp (length-append, length_standard32, length_windows32) refl
-
 pub length_optional : (o : OptionalHeaderView) → length (spell_optional o) ≡ cond (o.standard_fields.magic == 0x20B) 112 96 + 8 * length o.data_directories
 unfolding spell_optional
-length_optional o = simp length-append (omega (arith, fields_length (o.standard_fields.magic == 0x20B) o.standard_fields o.windows_fields, length_directories o.data_directories))
+length_optional o =
+    grind (arith, length-append, length_directories, length_standard64, length_windows64, length_standard32, length_windows32)
 
 -- ---- directories, and the optional header
 
@@ -99,11 +86,7 @@ rows_next {b} {old} {now} {p} rows i d h l e =
 
 -- the room that the parts of an optional header have, by its magic
 pub pe32_plus_room : (o : OptionalHeaderView) (rows : List DataDirectory) (p n : ℕ) → rows ≡ o.data_directories → o.standard_fields.magic ≡ 0x20B → p + length (spell_optional o) ≤ n → p + 112 + 8 * length rows ≤ n
-pe32_plus_room o rows p n e t h =
-    let l : length (spell_optional o) ≡ 112 + 8 * length rows = length_optional o ∙ rw (t, e) refl in
-    omega arith
+pe32_plus_room o rows p n e t h = grind (arith, length_optional)
 
 pub pe32_room : (o : OptionalHeaderView) (rows : List DataDirectory) (p n : ℕ) → rows ≡ o.data_directories → (o.standard_fields.magic ≡ 0x20B → ⊥) → p + length (spell_optional o) ≤ n → p + 96 + 8 * length rows ≤ n
-pe32_room o rows p n e t h =
-    let l : length (spell_optional o) ≡ 96 + 8 * length rows = length_optional o ∙ rw (ne_eqb _ _ t, e) refl in
-    omega arith
+pe32_room o rows p n e t h = grind (arith, length_optional)

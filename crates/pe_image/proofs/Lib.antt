@@ -1,3 +1,4 @@
+mod Cited
 pub mod NoMemory
 pub mod Steps
 pub mod ByMode

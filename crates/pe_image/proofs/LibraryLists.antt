@@ -1,18 +1,14 @@
 -- Of names there is one list of libraries, and one alone.
-use Rattle.std.proofs.Common.{◌≡◌, ℕ, zero, suc, ◌<◌, List, [], ◌∷◌, map, length, get_or, Option, Some, None, ◌⊎◌, inl, inr, ⊎_elim, refl, ap, sym, subst, ◌∙◌, arith}
+use Rattle.std.proofs.Common.{◌≡◌, ℕ, suc, List, [], ◌∷◌, map, Option, Some, None, ◌⊎◌, ⊎_elim, refl, ap, sym, subst, ◌∙◌, arith}
 use Rattle.std.specs.Cmp.Lexicographic.{slice_cmp}
 use Rattle.std.specs.FinMap.{nat_cmp-IsAntisymmetric, slice_cmp-IsAntisymmetric}
-use Rattle.std.specs.List.{AllByRecursion, Contains}
+use Rattle.pe_image.proofs.Cited.{AllByRecursion, Contains, All-contains, All-from_recursion, All-weaker, recursion_from_All}
+use Rattle.pe_image.proofs.Cited.{AreLibraries, ImportRecordView, AreLibrariesOf, image_view, libraries_of, HasLibraries, PE}
 use Rattle.std.specs.List.Sorted.{IsStrictlySortedBy}
-use Rattle.std.specs.Ordering.{nat_cmp, ordering_reverse}
+use Rattle.std.specs.Ordering.{nat_cmp}
 use Rattle.std.specs.declared.cmp.Ordering.{Ordering}
 use Rattle.std.specs.declared.cmp.Ordering.TheVariants.{Less, Equal, Greater}
 use Rattle.std.proofs.lemmas.Cmp.{nat_list_cmp_total, tied_itself}
-use Rattle.std.proofs.lemmas.List.Elements.{All-contains, All-from_recursion, All-weaker, recursion_from_All}
-use Rattle.pe_core.specs.Imports.{AreLibraries, ImportRecordView}
-use Rattle.pe_image.specs.Core.{AreLibrariesOf}
-use Rattle.pe_image.specs.Image.{ImageView, image_view, libraries_of, HasLibraries}
-use Rattle.pe_image.specs.declared.pe.PE.{PE}
 
 abbrev Name : Type 0
 Name = List ℕ
@@ -23,23 +19,13 @@ order = slice_cmp nat_cmp
 abbrev AreAbove : Name → List Name → Type 0
 AreAbove x xs = AllByRecursion (λ y. order x y ≡ Less) xs
 
-not_both : Less ≡ Equal → ⊥
-not_both e = cc
-
 not_below_itself : (x : Name) → order x x ≡ Less → ⊥
-not_below_itself x h = not_both (sym h ∙ tied_itself nat_list_cmp_total x)
-
-not_below_each_other : (x y : Name) → order x y ≡ Less → order y x ≡ Less → ⊥
-not_below_each_other x y h k = not_below_itself x (nat_list_cmp_total.trans x y x h k)
+not_below_itself x h = grind (arith, tied_itself, nat_list_cmp_total)
 
 -- ---- elements of a list and of its rest
 
-cases_at : (x z : Name) (xs : List Name) (k : ℕ) → k < length (x ∷ xs) → get_or (x ∷ xs) k z ≡ z → (x ≡ z) ⊎ Contains xs z
-cases_at x z xs zero l e = inl e
-cases_at x z xs (suc k) l e = inr (k, omega (arith, l), e)
-
 head_or_rest : (x z : Name) (xs : List Name) → Contains (x ∷ xs) z → (x ≡ z) ⊎ Contains xs z
-head_or_rest x z xs c = cases_at x z xs c.0 c.1 c.2
+head_or_rest x z xs c = grind arith
 
 at_head : (x : Name) (xs : List Name) → Contains (x ∷ xs) x
 at_head x xs = (0, omega arith, refl)
@@ -61,16 +47,12 @@ first_same x y xs ys hx hy cx cy =
     (λ (e : y ≡ x). sym e)
     (λ (c : Contains ys x). ⊎_elim
     (λ (e : x ≡ y). e)
-    (λ (d : Contains xs y). absurd (not_below_each_other x y (above x y xs hx d) (above y x ys hy c)))
+    (λ (d : Contains xs y). absurd (not_below_itself x (nat_list_cmp_total.trans x y x (above x y xs hx d) (above y x ys hy c))))
     (head_or_rest x y xs cy))
     (head_or_rest y x ys cx)
 
 not_first : (x y z : Name) (ys : List Name) → x ≡ y → order x z ≡ Less → Contains (y ∷ ys) z → Contains ys z
-not_first x y z ys same less c =
-    ⊎_elim
-    (λ (e : y ≡ z). absurd (not_below_itself x (subst (λ (w : Name). order x w ≡ Less) (sym (same ∙ e)) less)))
-    (λ (d : Contains ys z). d)
-    (head_or_rest y z ys c)
+not_first x y z ys same less c = grind (arith, not_below_itself, head_or_rest)
 
 one_sorted : (xs ys : List Name) → IsStrictlySortedBy order xs → IsStrictlySortedBy order ys → ((z : Name) → Contains xs z → Contains ys z) → ((z : Name) → Contains ys z → Contains xs z) → xs ≡ ys
 unfolding IsStrictlySortedBy
@@ -106,9 +88,7 @@ insert x [] = x ∷ []
 insert x (y ∷ ys) = insert_by (order x y) x y ys (insert x ys)
 
 all_by : (P : Name → Type 0) (o : Ordering) (x y : Name) (ys more : List Name) → P x → AllByRecursion P (y ∷ ys) → AllByRecursion P more → AllByRecursion P (insert_by o x y ys more)
-all_by P Less x y ys more p h k = (p, h)
-all_by P Equal x y ys more p h k = h
-all_by P Greater x y ys more p h k = (h.0, k)
+all_by P o x y ys more p h k = grind arith
 
 all_inserted : (P : Name → Type 0) (x : Name) (ys : List Name) → P x → AllByRecursion P ys → AllByRecursion P (insert x ys)
 all_inserted P x [] p h = (p, tt)
@@ -118,20 +98,14 @@ further : (x y : Name) (zs : List Name) → order x y ≡ Less → AreAbove y zs
 further x y [] l h = tt
 further x y (z ∷ zs) l h = (nat_list_cmp_total.trans x y z l h.0, further x y zs l h.1)
 
-turned : (x y : Name) → order x y ≡ Greater → order y x ≡ Less
-turned x y e = nat_list_cmp_total.antisymm y x ∙ ap ordering_reverse e
-
 sorted_by : (o : Ordering) (x y : Name) (ys more : List Name) → order x y ≡ o → AreAbove y ys → IsStrictlySortedBy order ys → (order y x ≡ Less → AreAbove y more) → IsStrictlySortedBy order more → IsStrictlySortedBy order (insert_by o x y ys more)
 unfolding IsStrictlySortedBy
-sorted_by Less x y ys more is h s k t = ((is, further x y ys is h), (h, s))
-sorted_by Equal x y ys more is h s k t = (h, s)
-sorted_by Greater x y ys more is h s k t = (k (turned x y is), t)
+sorted_by o x y ys more is h s k t = grind (arith, further, nat_list_cmp_total)
 
 sorted_inserted : (x : Name) (ys : List Name) → IsStrictlySortedBy order ys → IsStrictlySortedBy order (insert x ys)
 unfolding IsStrictlySortedBy
 sorted_inserted x [] s = (tt, tt)
-sorted_inserted x (y ∷ ys) s =
-    sorted_by (order x y) x y ys (insert x ys) refl s.0 s.1 (λ l. all_inserted (λ z. order y z ≡ Less) x ys l s.0) (sorted_inserted x ys s.1)
+sorted_inserted x (y ∷ ys) s = grind (arith, sorted_by, all_inserted, sorted_inserted x ys s.1)
 
 new_by : (o : Ordering) (x y : Name) (ys more : List Name) → order x y ≡ o → Contains more x → Contains (insert_by o x y ys more) x
 new_by Less x y ys more is c = at_head x (y ∷ ys)
@@ -147,11 +121,7 @@ new_inserted x (y ∷ ys) = new_by (order x y) x y ys (insert x ys) refl (new_in
 old_by : (o : Ordering) (x y z : Name) (ys more : List Name) → Contains (y ∷ ys) z → (Contains ys z → Contains more z) → Contains (insert_by o x y ys more) z
 old_by Less x y z ys more c f = in_rest x z (y ∷ ys) c
 old_by Equal x y z ys more c f = c
-old_by Greater x y z ys more c f =
-    ⊎_elim
-    (λ (e : y ≡ z). subst (Contains (y ∷ more)) e (at_head y more))
-    (λ (d : Contains ys z). in_rest y z more (f d))
-    (head_or_rest y z ys c)
+old_by Greater x y z ys more c f = grind (arith, at_head, in_rest, head_or_rest)
 
 old_inserted : (x z : Name) (ys : List Name) → Contains ys z → Contains (insert x ys) z
 old_inserted x z [] c = absurd (none_in_empty z c)
@@ -181,5 +151,4 @@ some_list (Some records) = (libraries_in (map (λ r. r.name) records), some_libr
 
 -- images that look the same have the same libraries
 pub same_libraries : {Y Z : Type 0} (p : PE Y) (q : PE Z) → image_view p ≡ image_view q → HasLibraries p → HasLibraries q → libraries_of p ≡ libraries_of q
-same_libraries p q same h k =
-    one_list (image_view q).import_data (libraries_of p) (libraries_of q) (subst (λ (x : ImageView). AreLibrariesOf x.import_data (libraries_of p)) same h) k
+same_libraries p q same h k = grind (arith, one_list)

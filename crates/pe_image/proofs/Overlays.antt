@@ -1,15 +1,7 @@
 -- Pieces that are put one after the other are their overlay.
-use Rattle.std.proofs.Common.{◌≡◌, ℕ, ◌+◌, ◌-◌, ◌≤◌, Bool, true, false, cond, List, [], ◌∷◌, ◌++◌, length, get_or, Option, Some, None, filter, refl, ap, sym, ◌∙◌, arith}
-use Rattle.std.specs.Prelude.{slice_index}
-use Rattle.std.specs.List.{last_or}
-use Rattle.std.proofs.lemmas.List.{ext_get_or}
-use Rattle.std.proofs.lemmas.Bool.Decides.{nat_tests}
-use Rattle.pe_core.proofs.EntryItems.{length-each, get_or-each}
-use Rattle.pe_core.proofs.Splices.{length-splice, get_or-splice}
-use Rattle.pe_core.specs.Rows.{each}
-use Rattle.pe_image.specs.Overlay.{Piece, has_byte, byte_of, byte_after, overlay, all_fit}
-use Rattle.pe_core.specs.Bytes.{splice}
-use Rattle.pe_image.specs.WritingSteps.{put_in_turn}
+use Rattle.std.proofs.Common.{◌≡◌, ℕ, ◌+◌, ◌-◌, ◌≤◌, true, cond, List, [], ◌∷◌, ◌++◌, length, get_or, Option, Some, None, refl, ap, sym, ◌∙◌, arith}
+use Rattle.pe_image.proofs.Cited.{slice_index, last_or, ext_get_or, nat_tests, length-each, get_or-each, length-splice}
+use Rattle.pe_image.proofs.Cited.{get_or-splice, each, Piece, has_byte, byte_of, byte_after, overlay, all_fit, splice, put_in_turn}
 
 -- the last of a list is the same whatever stood before its first element
 last_some : {X : Type 0} (xs : List X) (x : X) (q a b : ℕ) (r : ℕ → Option X → ℕ) → ((c d : ℕ) (y : X) → r c (Some y) ≡ r d (Some y)) → r a (last_or (Some x) xs) ≡ r b (last_or (Some x) xs)
@@ -21,13 +13,9 @@ one_more : (xs : List Piece) (q old : ℕ) (acc : Option Piece) → byte_of q (b
 one_more [] q old acc = refl
 one_more (x ∷ xs) q old acc = last_some xs x q (byte_of q old acc) old (λ c o. byte_of q c o) (λ c d y. refl)
 
-covered_first : (t : Bool) (x : Piece) (xs : List Piece) (q old : ℕ) → byte_of q (cond t (slice_index x.content (q - x.offset)) old) (last_or None xs) ≡ byte_of q old (last_or None (cond t (x ∷ xs) xs))
-covered_first true x xs q old = one_more xs q old (Some x)
-covered_first false x xs q old = refl
-
 pub byte_after_cons : (x : Piece) (xs : List Piece) (q old : ℕ) → byte_after xs q (cond (has_byte q x) (slice_index x.content (q - x.offset)) old) ≡ byte_after (x ∷ xs) q old
 unfolding byte_after
-byte_after_cons x xs q old = covered_first (has_byte q x) x (filter (has_byte q) xs) q old
+byte_after_cons x xs q old = grind (arith, one_more)
 
 pub length-put : (xs : List Piece) (b : List ℕ) → all_fit (length b) xs ≡ true → length (put_in_turn b xs) ≡ length b
 unfolding put_in_turn

@@ -1,39 +1,23 @@
 -- What writing an image over a copy of its bytes changes is zero.
-use Rattle.std.proofs.Common.{◌≡◌, ℕ, zero, suc, ◌+◌, ◌-◌, ◌*◌, ◌%◌, ◌<◌, ◌≤◌, ◌||◌, ◌⊎◌, inl, inr, Bool, true, false, cond, nat_le, Result, Ok, Err, List, [], ◌∷◌, ◌++◌, length, get_or, replicate, Option, Some, None, refl, ap, sym, ◌∙◌, subst, arith}
-use Rattle.std.specs.Prelude.{filter, max, slice_index, slice_range, unwrap_or, ◌==◌}
-use Rattle.std.specs.List.{last_or}
-use Rattle.std.proofs.lemmas.Bool.Decides.{nat_tests}
-use Rattle.std.proofs.lemmas.List.{places, length-replicate}
-use Rattle.pe_core.proofs.Ranges.{inside_if_held}
-use Rattle.pe_core.specs.Bytes.{AreBytes, le, bytes_of, holds, range}
-use Rattle.pe_core.specs.Header.{HeaderView, OptionalHeaderView, header, header_at, header_tests, optional_header, optional_header_tests, optional_header_at}
-use Rattle.pe_core.specs.Options.{is_permissive}
-use Rattle.pe_core.specs.Records.{dos_header, coff_header, section_table}
-use Rattle.pe_core.specs.Refusals.{Refusal, Short, BadMagic, HeaderPointer, WriteFit, WriteOverlap, WriteSection, outcome, ◌>>=◌}
-use Rattle.pe_core.specs.Rows.{each}
-use Rattle.pe_core.specs.Sections.{raw_end, sections_of, sections_offset}
-use Rattle.pe_core.specs.Spelling.{spell_dos, spell_coff, spell_optional, spell_section}
-use Rattle.pe_core.specs.declared.data_directories.DataDirectory.{DataDirectory}
-use Rattle.pe_core.specs.declared.options.ParseMode.{ParseMode}
-use Rattle.pe_core.specs.declared.options.ParseOptions.{ParseOptions}
-use Rattle.pe_core.specs.declared.section_table.SectionTable.{SectionTable}
+use Rattle.std.proofs.Common.{◌≡◌, ℕ, zero, suc, ◌+◌, ◌-◌, ◌*◌, ◌%◌, ◌<◌, ◌≤◌, ◌||◌, ◌⊎◌, inl, inr, Bool, true, false, cond, nat_le, Result, Ok, Err, List, [], ◌∷◌, ◌++◌, length, get_or, replicate, Option, Some, None, refl, ap, sym, ◌∙◌, subst, arith, rules}
+use Rattle.pe_image.proofs.Cited.{filter, max, slice_index, slice_range, unwrap_or, ◌==◌, last_or, nat_tests, places}
+use Rattle.pe_image.proofs.Cited.{length-replicate, inside_if_held, AreBytes, le, bytes_of, holds, range, HeaderView}
+use Rattle.pe_image.proofs.Cited.{OptionalHeaderView, header, header_at, header_tests, optional_header_tests, optional_header_at}
+use Rattle.pe_image.proofs.Cited.{is_permissive, dos_header, coff_header, section_table, Refusal, Short, BadMagic, HeaderPointer}
+use Rattle.pe_image.proofs.Cited.{WriteFit, WriteOverlap, WriteSection, outcome, raw_end, sections_of, sections_offset, spell_dos}
+use Rattle.pe_image.proofs.Cited.{spell_coff, spell_optional, spell_section, DataDirectory, ParseMode, ParseOptions, SectionTable}
+use Rattle.pe_image.proofs.Cited.{CertificateView, certificate_at, certificate, certificate_tests, certificates_at, IsListing}
+use Rattle.pe_image.proofs.Cited.{is_revision, is_type, revision_number, revision_of, type_number, type_of, spell_certificate}
+use Rattle.pe_image.proofs.Cited.{written_length, StandFrom, is_listing, unplaced, CoreView, core_of, field, given_value, ImageView}
+use Rattle.pe_image.proofs.Cited.{before_resources, IsAfterCore, IsImage, directory, Piece, EndsInZeros, all_fit, has_byte}
+use Rattle.pe_image.proofs.Cited.{byte_after, overlay, piece, all_certificate_pieces, all_section_pieces, certificate_pieces}
+use Rattle.pe_image.proofs.Cited.{header_pieces, in_a_row, lacking, section_pieces, AreAligned, all_in_source}
+use Rattle.pe_image.proofs.Cited.{certificate_directory, clash_free, image_by, image_end, image_pieces, image_tests, image_written}
+use Rattle.pe_image.proofs.Cited.{padded_pieces, whole_by, whole_written, get_or-each, length-each}
 use Rattle.pe_core.proofs.NumberBytes.{bytes_of-le, range_join}
 use Rattle.pe_core.proofs.SpelledOptional.{spelled_optional}
 use Rattle.pe_core.proofs.SpelledRecords.{spelled_dos, spelled_coff, spelled_section}
-use Rattle.pe_records.specs.Certificates.{CertificateView, certificate_at, certificate, certificate_tests, certificates_at, IsListing, is_revision, is_type, revision_number, revision_of, type_number, type_of}
-use Rattle.pe_records.specs.CertificateWriting.{spell_certificate, written_length}
-use Rattle.pe_records.specs.declared.certificate_table.AttributeCertificateRevision.TheVariants.{Revision1_0, Revision2_0}
-use Rattle.pe_records.specs.declared.certificate_table.AttributeCertificateType.TheVariants.{X509, PkcsSignedData, Reserved1, TsStackSigned}
-use Rattle.pe_records.proofs.CertificateListings.{StandFrom, is_listing, unplaced}
 use Rattle.pe_records.proofs.CertificatesReadAgain.{next_offset}
-use Rattle.pe_image.specs.Core.{CoreView, core_of, core_with}
-use Rattle.pe_image.specs.Fields.{field, given_value}
-use Rattle.pe_image.specs.Image.{ImageView, before_resources, IsAfterCore, IsImage}
-use Rattle.pe_image.specs.Layout.{directory}
-use Rattle.pe_image.specs.Overlay.{Piece, EndsInZeros, all_fit, has_byte, byte_of, byte_after, last_piece, overlay, piece}
-use Rattle.pe_image.specs.Pieces.{all_certificate_pieces, all_section_pieces, certificate_pieces, header_pieces, in_a_row, lacking, section_pieces}
-use Rattle.pe_image.specs.Writing.{AreAligned, all_in_source, certificate_directory, clash_free, image_by, image_end, image_pieces, image_tests, image_written, padded_pieces, whole_by, whole_written}
-use Rattle.pe_core.proofs.EntryItems.{get_or-each, length-each}
 use Rattle.pe_image.proofs.Overlays.{byte_after_cons}
 use Rattle.pe_image.proofs.Permissive.{certificates_alone, core_of_image}
 use Rattle.pe_image.proofs.Rows.{accepted_too}
@@ -47,18 +31,11 @@ AreThose b p s = (i : ℕ) → i < length s → get_or s i 0 ≡ get_or b (p + i
 abbrev Kept : Type 0 → List ℕ → ℕ → List ℕ → Type 0
 Kept z b p s = AreThose b p s ⊎ (z × (s ≡ replicate (length s) 0))
 
-range_byte : (b : List ℕ) (p q i : ℕ) → i < length (slice_range b p q) → get_or (slice_range b p q) i 0 ≡ get_or b (p + i) 0
-range_byte b p q i h = grind (arith, places)
-
 kept_range : (z : Type 0) (b s : List ℕ) (p q : ℕ) → s ≡ slice_range b p q → Kept z b p s
-kept_range z b s p q e = inl (subst (λ (t : List ℕ). AreThose b p t) (sym e) (λ i h. range_byte b p q i h))
+kept_range z b s p q e = grind (arith, places)
 
 kept_zeros : (z : Type 0) (b : List ℕ) (p n : ℕ) → z → Kept z b p (replicate n 0)
 kept_zeros z b p n may = inr (may, ap (λ (m : ℕ). replicate m 0) (sym (length-replicate n 0)))
-
--- no zeros at all
-no_zeros : (z : Type 0) (b : List ℕ) (p : ℕ) → Kept z b p []
-no_zeros z b p = inl (λ i lt. absurd (omega arith))
 
 -- all pieces are such
 abbrev AllKept : Type 0 → List ℕ → List Piece → Type 0
@@ -74,16 +51,12 @@ abbrev CoversKept : Type 0 → List ℕ → ℕ → Option Piece → Type 0
 CoversKept z b q None = Unit {0}
 CoversKept z b q (Some x) = Kept z b x.offset x.content × (has_byte q x ≡ true)
 
-first_kept : (z : Type 0) (b : List ℕ) (q : ℕ) (x : Piece) (xs : List Piece) (before : Option Piece) (t : Bool) → has_byte q x ≡ t → Kept z b x.offset x.content → ((before : Option Piece) → CoversKept z b q before → CoversKept z b q (last_or before xs)) → CoversKept z b q before → CoversKept z b q (last_or before (cond t (x ∷ xs) xs))
-first_kept z b q x xs before true e h then k = then (Some x) (h, e)
-first_kept z b q x xs before false e h then k = then before k
-
 -- the last of some pieces is such, if the one before them is
 last_kept : (z : Type 0) (b : List ℕ) (q : ℕ) (xs : List Piece) (before : Option Piece) → AllKept z b xs → CoversKept z b q before → CoversKept z b q (last_or before (filter (has_byte q) xs))
 last_kept z b q [] before h k = k
 last_kept z b q (x ∷ xs) before h k =
     let then : (before : Option Piece) → CoversKept z b q before → CoversKept z b q (last_or before (filter (has_byte q) xs)) = λ before k. last_kept z b q xs before h.1 k in
-    first_kept z b q x (filter (has_byte q) xs) before (has_byte q x) refl h.0 then k
+    grind (arith, h.0)
 
 -- a byte that is written over b at offset q is the one there, or it is zero and the piece that it is from is one of zeros
 abbrev KeptByte : Type 0 → List ℕ → List Piece → ℕ → ℕ → Type 0
@@ -94,22 +67,9 @@ zero_at zero i = refl
 zero_at (suc n) zero = refl
 zero_at (suc n) (suc i) = zero_at n i
 
--- the byte for offset q of such a piece
-byte_kept : (z : Type 0) (b : List ℕ) (pieces : List Piece) (q : ℕ) (x : Piece) → last_piece pieces q ≡ Some x → Kept z b x.offset x.content → has_byte q x ≡ true → KeptByte z b pieces q (get_or x.content (q - x.offset) 0)
-byte_kept z b pieces q x e (inl those) h =
-    let above : x.offset ≤ q = grind (arith, nat_tests) in
-    let below : q < x.offset + length x.content = grind (arith, nat_tests) in
-    let offset : x.offset + (q - x.offset) ≡ q = omega arith in
-    inl (those (q - x.offset) (omega arith) ∙ ap (λ (n : ℕ). get_or b n 0) offset)
-byte_kept z b pieces q x e (inr (may, zeros)) h = inr (may, (ap (λ (s : List ℕ). get_or s (q - x.offset) 0) zeros ∙ zero_at (length x.content) (q - x.offset), (x, e, zeros)))
-
-after_by : (z : Type 0) (b : List ℕ) (pieces : List Piece) (q : ℕ) (found : Option Piece) → last_piece pieces q ≡ found → CoversKept z b q found → KeptByte z b pieces q (byte_of q (get_or b q 0) found)
-after_by z b pieces q None e k = inl refl
-after_by z b pieces q (Some x) e k = byte_kept z b pieces q x e k.0 k.1
-
 after_kept : (z : Type 0) (b : List ℕ) (xs : List Piece) (q : ℕ) → AllKept z b xs → KeptByte z b xs q (byte_after xs q (get_or b q 0))
 unfolding byte_after
-after_kept z b xs q h = after_by z b xs q (last_piece xs q) refl (last_kept z b q xs None h tt)
+after_kept z b xs q h = grind (arith, nat_tests, zero_at, last_kept z b q xs None h tt)
 
 overlay_kept : (z : Type 0) (b : List ℕ) (xs : List Piece) (q : ℕ) → AllKept z b xs → q < length b → KeptByte z b xs q (get_or (overlay b xs) q 0)
 unfolding overlay
@@ -119,18 +79,12 @@ overlay_kept z b xs q h lt =
 -- ---- the headers
 
 passed_first : {Y : Type 0} (t : Bool) (k : Refusal) (tests : List (Bool × Refusal)) (v y : Y) → outcome ((t, k) ∷ tests) v ≡ Ok y → (t ≡ true) × (outcome tests v ≡ Ok y)
-passed_first true k tests v y h = (refl, h)
-passed_first false k tests v y h = absurd cc
+passed_first t k tests v y h = grind arith
 
 pub value_is : {Y : Type 0} (tests : List (Bool × Refusal)) (v y : Y) → outcome tests v ≡ Ok y → v ≡ y
 value_is [] v y h = cc
 value_is ((true, k) ∷ tests) v y h = value_is tests v y h
 value_is ((false, k) ∷ tests) v y h = absurd cc
-
--- an optional header that is there is accepted
-optional_given : (t : Bool) (tests : List (Bool × Refusal)) (v o : OptionalHeaderView) (w h : HeaderView) → cond t None (Some v) ≡ Some o → outcome (cond t [] tests) w ≡ Ok h → outcome tests v ≡ Ok o
-optional_given true tests v o w h e f = absurd cc
-optional_given false tests v o w h e f = let same : v ≡ o = cc in accepted_too tests w h v f ∙ ap (λ z. Ok z) same
 
 parts_kept : (z : Type 0) (b : List ℕ) (o : OptionalHeaderView) → AreBytes b → 64 ≤ length b → (dos_header b 0).pe_pointer + 24 ≤ length b → optional_header_at b ((dos_header b 0).pe_pointer + 24) ≡ Ok o → AllKept z b (header_pieces (header b) o)
 unfolding header_pieces header
@@ -143,12 +97,8 @@ parts_kept z b o small d c e =
     let last = kept_range z b (spell_optional o) (p + 24) (p + 24 + length (spell_optional o)) (sym (spelled_optional b (p + 24) o small e)) in
     (dos, (stub, (sign, (coff, (last, tt)))))
 
-optional_of : (b : List ℕ) (o : OptionalHeaderView) → (header b).optional_header ≡ Some o → cond ((coff_header b ((dos_header b 0).pe_pointer + 4)).size_of_optional_header == 0) None (Some (optional_header b ((dos_header b 0).pe_pointer + 24))) ≡ Some o
-unfolding header
-optional_of b o h = h
-
 headers_kept : (z : Type 0) (b : List ℕ) (mode : ParseMode) (h : HeaderView) (o : OptionalHeaderView) → AreBytes b → header_at b mode ≡ Ok h → h.optional_header ≡ Some o → AllKept z b (header_pieces h o)
-unfolding header_at header_tests
+unfolding header_at header_tests header
 headers_kept z b mode h o small e f =
     let p : ℕ = (dos_header b 0).pe_pointer in
     let rest : List (Bool × Refusal) = cond ((coff_header b (p + 4)).size_of_optional_header == 0) [] (optional_header_tests b (p + 24)) in
@@ -166,7 +116,7 @@ headers_kept z b mode h o small e f =
     let same : header b ≡ h = value_is rest (header b) h coff.1 in
     let there : (header b).optional_header ≡ Some o = ap (λ (x : HeaderView). x.optional_header) same ∙ f in
     let given : optional_header_at b (p + 24) ≡ Ok o =
-    optional_given ((coff_header b (p + 4)).size_of_optional_header == 0) (optional_header_tests b (p + 24)) (optional_header b (p + 24)) o (header b) h (optional_of b o there) coff.1 in
+    grind (arith, accepted_too, coff.1) in
     let long : p + 4 + 20 ≤ length b = inside_if_held b (p + 4) 20 coff.0 in
     subst (λ (x : HeaderView). AllKept z b (header_pieces x o)) same (parts_kept z b o small (inside_if_held b 0 64 dos.0) (omega arith) given)
 
@@ -186,7 +136,6 @@ section_kept z b unit offset s pads small e h =
 row_kept : (z : Type 0) (b : List ℕ) (unit : Option ℕ) (p : ℕ) (ss : List SectionTable) → KeepsPadding z b unit → AreBytes b → ((i : ℕ) → i < length ss → get_or ss i (section_table b 0) ≡ section_table b (p + 40 * i)) → (0 < length ss → p + 40 * length ss ≤ length b) → AllKept z b (all_section_pieces b unit p ss)
 row_kept z b unit p [] pads small is room = tt
 row_kept z b unit p (s ∷ ss) pads small is room =
-    let inside : p + 40 * suc (length ss) ≤ length b = room (omega arith) in
     let first : p + 40 * 0 ≡ p = omega arith in
     let here : s ≡ section_table b p = is 0 (omega arith) ∙ ap (section_table b) first in
     all_append z b (section_pieces b unit p s) (all_section_pieces b unit (p + 40) ss)
@@ -199,17 +148,7 @@ room_for : (n p l : ℕ) → (n == 0 || nat_le (p + 40 * n) l) ≡ true → 0 < 
 room_for n p l h some = grind (arith, nat_tests)
 
 sections_kept : (z : Type 0) (b : List ℕ) (unit : Option ℕ) (h : HeaderView) (ss : List SectionTable) → KeepsPadding z b unit → AreBytes b → sections_of b h ≡ Ok ss → AllKept z b (all_section_pieces b unit (sections_offset h) ss)
-sections_kept z b unit h ss pads small e =
-    let p : ℕ = sections_offset h in
-    let n : ℕ = h.coff_header.number_of_sections in
-    let f : ℕ → SectionTable = λ i. section_table b (p + 40 * i) in
-    let all = passed_first (n == 0 || holds b p (40 * n)) Short [] (each f n) ss e in
-    let same : each f n ≡ ss = value_is [] (each f n) ss all.1 in
-    let count : length (each f n) ≡ n = length-each f n in
-    subst (λ (ss : List SectionTable). AllKept z b (all_section_pieces b unit p ss)) same
-    (row_kept z b unit p (each f n) pads small
-    (λ i lt. get_or-each f n i (section_table b 0) (omega (arith, count)))
-    (λ some. rw count (room_for n p (length b) all.0 (omega (arith, count)))))
+sections_kept z b unit h ss pads small e = grind (arith, passed_first, value_is, length-each, row_kept, get_or-each, room_for)
 
 -- ---- certificates
 
@@ -227,30 +166,12 @@ read_at : (b : List ℕ) (p : ℕ) (c : CertificateView) (q : ℕ) → certifica
 unfolding certificate_at certificate certificate_tests
 read_at b p c q e = record { size = grind (arith, nat_tests); revision = grind (arith, nat_tests); has_revision = grind (arith, nat_tests); kind = grind (arith, nat_tests); has_kind = grind (arith, nat_tests); head = grind (arith, nat_tests); body = grind (arith, nat_tests) }
 
-revision_by : (n : ℕ) (t u : Bool) → (n == 0x0100) ≡ t → (n == 0x0200) ≡ u → (t || u) ≡ true → revision_number (cond t Revision1_0 Revision2_0) ≡ n
-revision_by n true u e f h = sym (grind (arith, nat_tests))
-revision_by n false true e f h = sym (grind (arith, nat_tests))
-revision_by n false false e f h = absurd cc
-
-same_revision : (n : ℕ) → is_revision n ≡ true → revision_number (revision_of n) ≡ n
-same_revision n h = revision_by n (n == 0x0100) (n == 0x0200) refl refl h
-
-type_by : (n : ℕ) (t u v w : Bool) → (n == 1) ≡ t → (n == 2) ≡ u → (n == 3) ≡ v → (n == 4) ≡ w → (((t || u) || v) || w) ≡ true → type_number (cond t X509 (cond u PkcsSignedData (cond v Reserved1 TsStackSigned))) ≡ n
-type_by n true u v w e f g k h = sym (grind (arith, nat_tests))
-type_by n false true v w e f g k h = sym (grind (arith, nat_tests))
-type_by n false false true w e f g k h = sym (grind (arith, nat_tests))
-type_by n false false false true e f g k h = sym (grind (arith, nat_tests))
-type_by n false false false false e f g k h = absurd cc
-
-same_type : (n : ℕ) → is_type n ≡ true → type_number (type_of n) ≡ n
-same_type n h = type_by n (n == 1) (n == 2) (n == 3) (n == 4) refl refl refl refl h
-
 spelled_certificate : (b : List ℕ) (p : ℕ) (c : CertificateView) → AreBytes b → ReadAt b p c → spell_certificate c ≡ slice_range b p (p + 8)
 unfolding spell_certificate
 spelled_certificate b p c small r =
     let inside : p + 8 ≤ length b = r.head in
-    let revision : revision_number c.revision ≡ le b (p + 4) 2 = ap revision_number r.revision ∙ same_revision (le b (p + 4) 2) r.has_revision in
-    let kind : type_number c.certificate_type ≡ le b (p + 6) 2 = ap type_number r.kind ∙ same_type (le b (p + 6) 2) r.has_kind in
+    let revision : revision_number c.revision ≡ le b (p + 4) 2 = ap revision_number r.revision ∙ (grind (arith, nat_tests, r.has_revision)) in
+    let kind : type_number c.certificate_type ≡ le b (p + 6) 2 = ap type_number r.kind ∙ (grind (arith, nat_tests, r.has_kind)) in
     let six : p + 4 + 2 ≡ p + 6 = omega arith in
     let eight : p + 6 + 2 ≡ p + 8 = omega arith in
     let first : bytes_of 4 (le b p 4) ≡ slice_range b p (p + 4) = bytes_of-le b p 4 small (omega arith) in
@@ -294,38 +215,22 @@ field_kept z b true (Some d) cs may small m same = read_kept z b d.virtual_addre
 
 -- ---- the image
 
-header_then : (b : List ℕ) (o : ParseOptions) (header : HeaderView) (r : Result (List SectionTable) Refusal) (c : CoreView) → (r >>= λ sections. core_with b o header sections) ≡ Ok c → c.header ≡ header
-header_then b o header (Ok sections) c h = core_header b o header sections c h
-header_then b o header (Err e) c h = absurd cc
-
-header_first : (b : List ℕ) (o : ParseOptions) (r : Result HeaderView Refusal) (c : CoreView) → (r >>= λ header. sections_of b header >>= λ sections. core_with b o header sections) ≡ Ok c → r ≡ Ok c.header
-header_first b o (Ok header) c h = ap (λ header. Ok header) (sym (header_then b o header (sections_of b header) c h))
-header_first b o (Err e) c h = absurd cc
-
-header_of_core : (b : List ℕ) (o : ParseOptions) (c : CoreView) → core_of b o ≡ Ok c → header_at b o.parse_mode ≡ Ok c.header
-unfolding core_of
-header_of_core b o c h = header_first b o (header_at b o.parse_mode) c h
-
-then_those : (b : List ℕ) (r : Result HeaderView Refusal) (h : HeaderView) (ss : List SectionTable) → r ≡ Ok h → (r >>= λ header. sections_of b header) ≡ Ok ss → sections_of b h ≡ Ok ss
-then_those b r h ss e f = rw e at f
-
 core_after : (b : List ℕ) (o : ParseOptions) (r : Result CoreView Refusal) (x : ImageView) → before_resources b o ≡ r → IsAfterCore b o r (Ok x) → (c : CoreView) × (core_of b o ≡ Ok c)
 unfolding before_resources
-core_after b o (Ok c) x h is = (c, core_before b o (core_of b o) c h)
-core_after b o (Err e) x h is = absurd cc
+core_after b o r x h is = grind (arith, core_before)
 
 -- headers and sections of an image are those of its file, and so are its certificates
 laid_kept : (z : Type 0) (b : List ℕ) (unit : Option ℕ) (o : ParseOptions) (x : ImageView) (h : OptionalHeaderView) → KeepsPadding z b unit → AreBytes b → IsImage b o (Ok x) → x.header.optional_header ≡ Some h → AllKept z b (all_certificate_pieces (certificate_directory h) x.certificates) → AllKept z b (padded_pieces unit b x.header h x.sections x.certificates)
-unfolding padded_pieces
+unfolding padded_pieces core_of
 laid_kept z b unit o x h pads small is e listed =
     let (c, core) = core_after b o (before_resources b o) x refl is in
     let same = core_of_image b o c x core is in
     let head : x.header ≡ c.header = ap (λ (c : CoreView). c.header) same in
     let rows : x.sections ≡ c.sections = ap (λ (c : CoreView). c.sections) same in
-    let at_core : header_at b o.parse_mode ≡ Ok c.header = header_of_core b o c core in
+    let at_core : header_at b o.parse_mode ≡ Ok c.header = grind (arith, core_header) in
     let at_image : header_at b o.parse_mode ≡ Ok x.header = at_core ∙ ap (λ (h : HeaderView). Ok h) (sym head) in
     let read : sections_of b x.header ≡ Ok x.sections =
-    then_those b (header_at b o.parse_mode) x.header x.sections at_image (sections_of_core b o c core ∙ ap (λ (ss : List SectionTable). Ok ss) (sym rows)) in
+    rw at_image at (sections_of_core b o c core ∙ ap (λ (ss : List SectionTable). Ok ss) (sym rows)) in
     let sections : List Piece = all_section_pieces b unit (sections_offset x.header) x.sections in
     all_append z b (header_pieces x.header h ++ sections) (all_certificate_pieces (certificate_directory h) x.certificates)
     (all_append z b (header_pieces x.header h) sections (headers_kept z b o.parse_mode x.header h small at_image e) (sections_kept z b unit x.header x.sections pads small read))
@@ -342,17 +247,12 @@ listed_kept b o x h small is m e =
 
 -- zeros may be written after sections and certificates
 pieces_kept : (b : List ℕ) (unit : Option ℕ) (o : ParseOptions) (x : ImageView) (h : OptionalHeaderView) → AreBytes b → IsImage b o (Ok x) → AreAligned x → x.header.optional_header ≡ Some h → AllKept (Unit {0}) b (padded_pieces unit b x.header h x.sections x.certificates)
-pieces_kept b unit o x h small is m e =
-    laid_kept (Unit {0}) b unit o x h (λ s. kept_zeros (Unit {0}) b (raw_end s) (lacking s.size_of_raw_data unit) tt) small is e (listed_kept b o x h small is m e)
-
--- without padding and certificates, none are
-no_certificates : (b : List ℕ) (d : Option DataDirectory) (cs : List CertificateView) → cs ≡ [] → AllKept ⊥ b (all_certificate_pieces d cs)
-no_certificates b None cs e = tt
-no_certificates b (Some d) cs e = none_kept ⊥ b d.virtual_address cs e
+pieces_kept b unit o x h small is m e = search (rules, arith, laid_kept, kept_zeros, listed_kept)
 
 unsigned_kept : (b : List ℕ) (o : ParseOptions) (x : ImageView) (h : OptionalHeaderView) → AreBytes b → IsImage b o (Ok x) → x.certificates ≡ [] → x.header.optional_header ≡ Some h → AllKept ⊥ b (padded_pieces None b x.header h x.sections x.certificates)
 unsigned_kept b o x h small is none e =
-    laid_kept ⊥ b None o x h (λ s. no_zeros ⊥ b (raw_end s)) small is e (no_certificates b (certificate_directory h) x.certificates none)
+    laid_kept ⊥ b None o x h (λ s. inl (λ i lt. absurd (omega arith))) small is e
+    (grind (arith, none_kept))
 
 written_by : (k : Option OptionalHeaderView) (b : List ℕ) (x : ImageView) (h : OptionalHeaderView) (n q : ℕ) (new : List ℕ) → k ≡ Some h → image_by k b x.header x.sections x.certificates b ≡ Ok (n, new) → AllKept (Unit {0}) b (image_pieces b x.header h x.sections x.certificates) → q < length b → KeptByte (Unit {0}) b (image_pieces b x.header h x.sections x.certificates) q (get_or new q 0)
 written_by None b x h n q new there e kept lt = absurd cc
@@ -364,16 +264,10 @@ written_by (Some o) b x h n q new there e kept lt =
 
 -- zeros may be there, or may not
 where_zeros : {A B : Type 0} → A ⊎ (Unit {0} × B) → A ⊎ B
-where_zeros (inl a) = inl a
-where_zeros (inr (t, b)) = inr b
-
-where_none : {A B : Type 0} → A ⊎ (⊥ × B) → A
-where_none (inl a) = a
-where_none (inr (f, b)) = absurd f
+where_zeros e = grind arith
 
 pub rewritten : (b new : List ℕ) (o : ParseOptions) (x : ImageView) (h : OptionalHeaderView) (n q : ℕ) → AreBytes b → IsImage b o (Ok x) → AreAligned x → x.header.optional_header ≡ Some h → image_written b x b ≡ Ok (n, new) → q < length b → (slice_index new q ≡ slice_index b q) ⊎ ((slice_index new q ≡ 0) × EndsInZeros (image_pieces b x.header h x.sections x.certificates) q)
-rewritten b new o x h n q small is m there e lt =
-    where_zeros (written_by x.header.optional_header b x h n q new there e (pieces_kept b (Some h.windows_fields.file_alignment) o x h small is m there) lt)
+rewritten b new o x h n q small is m there e lt = grind (arith, where_zeros, written_by, pieces_kept)
 
 -- ---- the whole file
 
@@ -388,9 +282,6 @@ over_file b old rest q room lt =
     ∙ (ap (λ (n : ℕ). byte_after rest q (cond (has_byte q (piece 0 b)) (get_or b n 0) (get_or old q 0))) from_start
     ∙ ap (λ t. byte_after rest q (cond t (get_or b q 0) (get_or old q 0))) covers))
 
-file_fits : (n : ℕ) (b : List ℕ) (rest : List Piece) → all_fit n (piece 0 b ∷ rest) ≡ true → length b ≤ n
-file_fits n b rest h = grind (arith, nat_tests)
-
 whole_written_by : (z : Type 0) (k : Option OptionalHeaderView) (b old : List ℕ) (x : ImageView) (h : OptionalHeaderView) (n q : ℕ) (new : List ℕ) → k ≡ Some h → whole_by k b x.header x.sections x.certificates old ≡ Ok (n, new) → AllKept z b (padded_pieces None b x.header h x.sections x.certificates) → q < length b → KeptByte z b (padded_pieces None b x.header h x.sections x.certificates) q (get_or new q 0)
 whole_written_by z None b old x h n q new there e kept lt = absurd cc
 whole_written_by z (Some o) b old x h n q new there e kept lt =
@@ -403,7 +294,7 @@ whole_written_by z (Some o) b old x h n q new there e kept lt =
     let inside = passed_first (all_in_source b x.sections) WriteSection fit defined (n, new) apart.1 in
     let fits = passed_first (all_fit (length old) pieces) WriteFit [] defined (n, new) inside.1 in
     let same : defined ≡ (n, new) = value_is [] defined (n, new) fits.1 in
-    let byte : get_or (overlay old pieces) q 0 ≡ byte_after rest q (get_or b q 0) = over_file b old rest q (file_fits (length old) b rest fits.0) lt in
+    let byte : get_or (overlay old pieces) q 0 ≡ byte_after rest q (get_or b q 0) = over_file b old rest q (grind (arith, nat_tests, fits.0)) lt in
     let kept_there : KeptByte z b rest q (get_or (overlay old pieces) q 0) = subst (KeptByte z b rest q) (sym byte) (after_kept z b rest q kept) in
     subst (λ (s : List ℕ). KeptByte z b rest q (get_or s q 0)) (ap (λ (r : ℕ × List ℕ). r.1) same) kept_there
 
@@ -413,4 +304,5 @@ whole_changes b old new o x h n q small is m there e lt =
 
 pub whole_unsigned : (b old new : List ℕ) (o : ParseOptions) (x : ImageView) (h : OptionalHeaderView) (n q : ℕ) → AreBytes b → IsImage b o (Ok x) → x.certificates ≡ [] → x.header.optional_header ≡ Some h → whole_written b x old ≡ Ok (n, new) → q < length b → slice_index new q ≡ slice_index b q
 whole_unsigned b old new o x h n q small is none there e lt =
-    where_none (whole_written_by ⊥ x.header.optional_header b old x h n q new there e (unsigned_kept b o x h small is none there) lt)
+    grind
+    (arith, whole_written_by ⊥ x.header.optional_header b old x h n q new there e (unsigned_kept b o x h small is none there) lt)

@@ -1,24 +1,17 @@
 -- Pieces of records that stand one after the other: what is left of them while they are gone over.
-use Rattle.std.proofs.Common.{◌≡◌, ℕ, ◌+◌, ◌<◌, ◌&&◌, Bool, true, false, Ok, Err, List, [], ◌∷◌, ◌++◌, length, get_or, drop, refl, ap, sym, ◌∙◌}
-use Rattle.std.specs.List.{list_all}
-use Rattle.std.proofs.lemmas.List.{drop_more}
-use Rattle.pe_core.specs.Refusals.{Refusal, WriteFit, outcome}
-use Rattle.pe_image.specs.Overlay.{Piece, fits, all_fit, overlay}
-use Rattle.pe_image.specs.Pieces.{in_a_row, row_end}
-use Rattle.pe_image.specs.WritingSteps.{put_in_turn}
+use Rattle.std.proofs.Common.{◌≡◌, ℕ, ◌+◌, ◌<◌, ◌&&◌, Bool, true, false, Ok, Err, List, [], ◌∷◌, ◌++◌, length, get_or, drop, refl, ap, sym, ◌∙◌, arith}
+use Rattle.pe_image.proofs.Cited.{list_all, drop_more, Refusal, WriteFit, outcome, Piece, fits, all_fit, overlay, in_a_row, row_end}
+use Rattle.pe_image.proofs.Cited.{put_in_turn}
 use Rattle.pe_image.proofs.Overlays.{put_append, overlay_in_turn}
 
 pub and_assoc : (a b c : Bool) → (a && (b && c)) ≡ ((a && b) && c)
-and_assoc true b c = refl
-and_assoc false b c = refl
+and_assoc a b c = grind arith
 
 pub and_left : (a b : Bool) → (a && b) ≡ true → a ≡ true
-and_left true b h = refl
-and_left false b h = h
+and_left a b h = grind arith
 
 pub and_right : (a b : Bool) → (a && b) ≡ true → b ≡ true
-and_right true b h = h
-and_right false b h = absurd cc
+and_right a b h = grind arith
 
 list_all-append : {X : Type 0} (p : X → Bool) (xs ys : List X) → list_all p (xs ++ ys) ≡ (list_all p xs && list_all p ys)
 list_all-append p [] ys = refl
@@ -37,11 +30,7 @@ pub goes_fits : {X : Type 0} (f : ℕ → X → List Piece) (w : X → ℕ) (b :
 goes_fits f w b start xs now offset x rest g = and_left _ _ (sym (all_fit_append (length b) (f offset x) (in_a_row f w (offset + w x) rest)) ∙ g.fit)
 
 pub goes_next : {X : Type 0} (f : ℕ → X → List Piece) (w : X → ℕ) (b : List ℕ) (start : ℕ) (xs : List X) (now next : List ℕ) (offset : ℕ) (x : X) (rest : List X) → Goes f w b start xs now offset (x ∷ rest) → next ≡ put_in_turn now (f offset x) → Goes f w b start xs next (offset + w x) rest
-goes_next f w b start xs now next offset x rest g e = record {
-  same = rw e (sym (put_append (f offset x) (in_a_row f w (offset + w x) rest) now) ∙ g.same);
-  fit = and_right _ _ (sym (all_fit_append (length b) (f offset x) (in_a_row f w (offset + w x) rest)) ∙ g.fit);
-  ends = g.ends;
-}
+goes_next f w b start xs now next offset x rest g e = grind (arith, put_append, and_right, all_fit_append)
 
 pub goes_last : {X : Type 0} (f : ℕ → X → List Piece) (w : X → ℕ) (b : List ℕ) (start : ℕ) (xs : List X) (now : List ℕ) (offset : ℕ) → Goes f w b start xs now offset [] → now ≡ put_in_turn b (in_a_row f w start xs)
 unfolding put_in_turn
@@ -51,22 +40,16 @@ goes_last f w b start xs now offset g = g.same
 pub rest_at : {X : Type 0} (xs : List X) (i : ℕ) (d : X) → i < length xs → drop i xs ≡ get_or xs i d ∷ drop (i + 1) xs
 rest_at xs i d h = drop_more xs i d h
 
--- ---- a test of all elements, from the first on, which may look at those after each
-
 -- ---- answers and refusals
 
 pub fits_if : {Y : Type 0} (t : Bool) (x y : Y) → outcome ((t, WriteFit) ∷ []) x ≡ Ok y → t ≡ true
-fits_if true x y h = refl
-fits_if false x y h = absurd cc
+fits_if t x y h = grind arith
 
 pub unfit_if : {Y : Type 0} (t : Bool) (x : Y) (r : Refusal) → outcome ((t, WriteFit) ∷ []) x ≡ Err r → t ≡ false
-unfit_if true x r h = absurd cc
-unfit_if false x r h = refl
+unfit_if t x r h = grind arith
 
 pub refused_if : {Y Z : Type 0} (t u : Bool) (x : Y) (z : Z) (r : Refusal) → outcome ((t, WriteFit) ∷ []) x ≡ Err r → u ≡ false → outcome ((u, WriteFit) ∷ []) z ≡ Err r
-refused_if true u x z r h e = absurd cc
-refused_if false true x z r h e = absurd cc
-refused_if false false x z r h e = let same : WriteFit ≡ r = cc in ap (λ k. Err k) same
+refused_if t u x z r h e = grind arith
 
 -- the same tests return another value where they return one, and refuse it where they refuse
 pub accepted_too : {X Y : Type 0} (tests : List (Bool × Refusal)) (x z : X) (y : Y) → outcome tests x ≡ Ok z → outcome tests y ≡ Ok y
@@ -86,5 +69,4 @@ written_too ((true, k) ∷ tests) x z s t h e = written_too tests x z s t h e
 written_too ((false, k) ∷ tests) x z s t h e = absurd cc
 
 pub wrote : (b now : List ℕ) (pieces : List Piece) (x z : ℕ) → outcome ((all_fit (length b) pieces, WriteFit) ∷ []) x ≡ Ok z → now ≡ put_in_turn b pieces → outcome {Y = ℕ × List ℕ} ((all_fit (length b) pieces, WriteFit) ∷ []) (x, overlay b pieces) ≡ Ok (z, now)
-wrote b now pieces x z h e =
-    written_too ((all_fit (length b) pieces, WriteFit) ∷ []) x z (overlay b pieces) now h (e ∙ overlay_in_turn pieces b (fits_if _ x z h))
+wrote b now pieces x z h e = grind (arith, written_too, overlay_in_turn, fits_if)

@@ -1,25 +1,15 @@
 -- The first refusal among imports is the first among those whose entries no record before has.
-use Rattle.std.proofs.Common.{◌≡◌, ◌≢◌, ℕ, zero, suc, ◌+◌, ◌-◌, ◌*◌, ◌/◌, ◌%◌, ◌^◌, ◌<◌, ◌≤◌, Bool, true, false, List, [], ◌∷◌, ◌++◌, map, length, get_or, take, replicate, Option, Some, None, Result, Ok, Err, refl, sym, ap, subst, ◌∙◌, arith, ⊎_elim}
+use Rattle.std.proofs.Common.{◌≡◌, ◌≢◌, ℕ, zero, suc, ◌+◌, ◌-◌, ◌*◌, ◌/◌, ◌<◌, ◌≤◌, Bool, false, List, [], ◌∷◌, ◌++◌, map, length, get_or, take, replicate, Option, Some, None, Result, Ok, Err, refl, sym, ap, subst, ◌∙◌, arith, ⊎_elim, rules}
 use Rattle.std.specs.Borrow.{Bor}
-use Rattle.std.specs.Prelude.{max, slice_index, slice_range, slice_set, nat_le, if◌then◌else◌}
-use Rattle.std.specs.List.{flat_map}
-use Rattle.std.specs.Result.{IsOk}
-use Rattle.std.proofs.lemmas.Bool.{cases_lt}
-use Rattle.std.proofs.lemmas.Grind.{flat_map-append}
-use Rattle.std.proofs.lemmas.List.{append-nil, get_or-map, get_or-replicate, get_or-set_other, get_or-set_same, get_or_past, length-map, length-replicate, length-set, map-append, places, take_all, take_more}
+use Rattle.pe_image.proofs.Cited.{max, slice_index, slice_range, slice_set, IsOk, cases_lt, flat_map-append, append-nil, get_or-map}
+use Rattle.pe_image.proofs.Cited.{get_or-replicate, get_or-set_other, get_or-set_same, get_or_past, length-map, length-replicate}
+use Rattle.pe_image.proofs.Cited.{length-set, map-append, places, take_all, take_more, each_same, length_range, le, range}
+use Rattle.pe_image.proofs.Cited.{all_or_refusal, with_rest, EntryView, ImportRecordView, ImportView, import_entries}
+use Rattle.pe_image.proofs.Cited.{import_entry_at, import_of, import_record_view, imports, entry_size, Refusal, ◌>>=◌, each}
+use Rattle.pe_image.proofs.Cited.{AllStand, StandsAt, counts_after, entries_left, if_listed, list_offset, tested}
 use Rattle.std.proofs.lemmas.Nat.{column_fits, div-mul-add}
-use Rattle.pe_core.proofs.EntryItems.{each_same}
 use Rattle.pe_core.proofs.EntryLists.{some_size}
-use Rattle.pe_core.proofs.Ranges.{length_range}
-use Rattle.pe_core.specs.Bytes.{le, range, record_at}
-use Rattle.pe_core.specs.Gathered.{all_or_refusal, with_rest}
-use Rattle.pe_core.specs.Imports.{EntryView, ImportRecordView, ImportView, import_entries, import_entry_at, import_of, import_record_view, imports, entry_size, name_or_refusal, named_import}
-use Rattle.pe_core.specs.Refusals.{Refusal, ◌>>=◌}
-use Rattle.pe_core.specs.Rows.{each}
-use Rattle.pe_core.specs.SectionMap.{mapped}
-use Rattle.pe_core.specs.Text.{text_at}
 use Rattle.pe_image.proofs.StandingLists.{le_of_range}
-use Rattle.pe_image.specs.SharedLists.{AllStand, StandsAt, counts_after, entries_left, if_listed, list_offset, tested}
 use Rattle.pe_core.specs.declared.import.SyntheticImportDirectoryEntry.{SyntheticImportDirectoryEntry}
 
 -- ---- the first refusal of results in turn
@@ -31,8 +21,7 @@ abbrev tests : List (Result ImportView Refusal) → Tested
 tests rs = if_listed false (all_or_refusal rs)
 
 one_more : (x : ImportView) (r : Tested) → if_listed false (with_rest (x ∷ []) r) ≡ if_listed false r
-one_more x (Ok xs) = refl
-one_more x (Err e) = refl
+one_more x r = grind arith
 
 both : (xs ys : List (Result ImportView Refusal)) → tests (xs ++ ys) ≡ (tests xs >>= λ u. tests ys)
 both [] ys = refl
@@ -40,25 +29,14 @@ both (Ok x ∷ xs) ys = one_more x (all_or_refusal (xs ++ ys)) ∙ both xs ys �
 both (Err e ∷ xs) ys = refl
 
 settled : (r : Tested) → (if_listed false r >>= λ u. Ok []) ≡ if_listed false r
-settled (Ok xs) = refl
-settled (Err e) = refl
+settled r = grind arith
 
 passed : (r s : Tested) → IsOk (r >>= λ u. s) → IsOk r × IsOk s
-passed (Ok u) s h = (refl, h)
-passed (Err e) s h = absurd cc
+passed r s h = grind arith
 
 -- what follows counts only where nothing is refused before
 once_passed : (r s t : Tested) → (IsOk r → s ≡ t) → (r >>= λ u. s) ≡ (r >>= λ u. t)
-once_passed (Ok u) s t h = h refl
-once_passed (Err e) s t h = refl
-
-accepted_one : (r : Result ImportView Refusal) → IsOk r → tests (r ∷ []) ≡ Ok []
-accepted_one (Ok x) h = refl
-accepted_one (Err e) h = absurd cc
-
-one_accepted : (r : Result ImportView Refusal) → IsOk (tests (r ∷ [])) → IsOk r
-one_accepted (Ok x) h = refl
-one_accepted (Err e) h = absurd cc
+once_passed r s t h = grind arith
 
 -- ---- of entries in a row
 
@@ -80,7 +58,7 @@ shortened F f d (suc n) h =
     ap (run F f) more
     ∙ one_last F f (d + n)
     ∙ ap (λ (r : Tested). r >>= λ u. tests (F (f (d + n)) ∷ [])) (shortened F f d n (λ k from lt. h k from (omega (arith, lt))))
-    ∙ ap (λ (r : Tested). run F f d >>= λ u. r) (accepted_one (F (f (d + n))) (h (d + n) (omega arith) (omega arith)))
+    ∙ ap (λ (r : Tested). run F f d >>= λ u. r) (grind (arith, h (d + n) (omega arith) (omega arith)))
     ∙ settled (all_or_refusal (map F (each f d)))
 
 each_accepted : (F : Read) (f : ℕ → EntryView) (n : ℕ) → IsOk (run F f n) → (k : ℕ) → k < n → IsOk (F (f k))
@@ -89,33 +67,14 @@ each_accepted F f (suc n) h k lt =
     let parts = passed (run F f n) (tests (F (f n) ∷ [])) (subst (λ (r : Tested). IsOk r) (one_last F f n) h) in
     ⊎_elim
     (λ (l : k < n). each_accepted F f n parts.0 k l)
-    (λ (g : n ≤ k). let same : n ≡ k = omega (arith, lt, g) in subst (λ (i : ℕ). IsOk (F (f i))) same (one_accepted (F (f n)) parts.1))
+    (λ (g : n ≤ k). let same : n ≡ k = omega (arith, lt, g) in subst (λ (i : ℕ). IsOk (F (f i))) same (grind (arith, parts.1)))
     (cases_lt k n)
 
 -- ---- an entry's number decides whether its import is refused
 
-by_name : (r : Result ℕ Refusal) (s : Result (List ℕ) Refusal) (f g : ℕ → List ℕ → ImportView) → IsOk (r >>= λ hint. s >>= λ name. Ok (f hint name)) → IsOk (r >>= λ hint. s >>= λ name. Ok (g hint name))
-by_name (Ok hint) (Ok name) f g ok = refl
-by_name (Ok hint) (Err e) f g ok = absurd cc
-by_name (Err e) s f g ok = absurd cc
-
-by_offset : (b : List ℕ) (d e : EntryView) (p : Option ℕ) → IsOk (mapped p >>= named_import b d) → IsOk (mapped p >>= named_import b e)
-by_offset b d e None ok = absurd cc
-by_offset b d e (Some p) ok =
-    by_name (record_at b p 2 (le b p 2)) (name_or_refusal (text_at b (p + 2)))
-    (λ hint name. record { name = Some name; dll = d.dll; ordinal = hint; rva = d.rva }) (λ hint name. record { name = Some name; dll = e.dll; ordinal = hint; rva = e.rva }) ok
-
-by_kind : (ordinal : Bool) (x y : ImportView) (r s : Result ImportView Refusal) → (IsOk r → IsOk s) → IsOk (if ordinal then Ok x else r) → IsOk (if ordinal then Ok y else s)
-by_kind true x y r s f ok = refl
-by_kind false x y r s f ok = f ok
-
 same_entry : (offset : ℕ → Option ℕ) (w : ℕ) (b : List ℕ) (n : ℕ) (d e : EntryView) → d.entry ≡ n → e.entry ≡ n → IsOk (import_of offset w b d) → IsOk (import_of offset w b e)
 unfolding import_of
-same_entry offset w b n d e dn en ok =
-    rw en (by_kind (nat_le (2 ^ (8 * w - 1)) n)
-    (record { name = None; dll = d.dll; ordinal = n % 2 ^ 16; rva = d.rva }) (record { name = None; dll = e.dll; ordinal = n % 2 ^ 16; rva = e.rva })
-    (mapped (offset (n % 2 ^ 31)) >>= named_import b d) (mapped (offset (n % 2 ^ 31)) >>= named_import b e)
-    (by_offset b d e (offset (n % 2 ^ 31))) (rw dn at ok))
+same_entry offset w b n d e dn en ok = search (rules, arith)
 
 -- an entry with this number is accepted
 abbrev Accepted : (ℕ → Option ℕ) → ℕ → List ℕ → ℕ → Type 0
@@ -156,12 +115,7 @@ first_entries w d n r some few long short is =
 tested_more : (offset : ℕ → Option ℕ) (w : ℕ) (b : List ℕ) (records : List ImportRecordView) (r : ImportRecordView)
     → tested offset w b (records ++ r ∷ []) ≡ (tested offset w b records >>= λ u. run (import_of offset w b) (import_entry_at w r) (length r.lookups / w))
 unfolding imports import_entries
-tested_more offset w b records r =
-    let F : Read = import_of offset w b in
-    let entries : ImportRecordView → List EntryView = λ r. each (import_entry_at w r) (length r.lookups / w) in
-    ap (λ (es : List EntryView). tests (map F es)) (flat_map-append entries records (r ∷ []) ∙ ap (λ (es : List EntryView). flat_map entries records ++ es) (append-nil (entries r)))
-    ∙ ap tests (map-append F (flat_map entries records) (entries r))
-    ∙ both (map F (flat_map entries records)) (map F (entries r))
+tested_more offset w b records r = grind (arith, flat_map-append, append-nil, map-append, both)
 
 -- the records that are kept have the first refusal of all of these, and where there is none, what was read is accepted
 pub record Reduced (offset : ℕ → Option ℕ) (w : ℕ) (b : List ℕ) (records kept : List ImportRecordView) (counts : List ℕ) : Type 0 where
@@ -169,30 +123,14 @@ pub record Reduced (offset : ℕ → Option ℕ) (w : ℕ) (b : List ℕ) (recor
   pub same : tested offset w b kept ≡ tested offset w b records
   pub read : IsOk (tested offset w b records) → (end : ℕ) → AcceptedBefore offset w b end (slice_index counts end)
 
-none_counted : (n end : ℕ) → slice_index (replicate n 0) end ≡ 0
-none_counted n end = ⊎_elim
-    (λ (h : end < n). get_or-replicate n end 0 0 h)
-    (λ (h : n ≤ end). get_or_past (replicate n 0) end 0 (omega (arith, length-replicate {A = ℕ} n 0, h)))
-    (cases_lt end n)
-
 pub reduced-start : (offset : ℕ → Option ℕ) (w : ℕ) (b counts : List ℕ) (n : ℕ) → counts ≡ replicate n 0 → n ≡ length b + 1 → Reduced offset w b [] [] counts
-reduced-start offset w b counts n is many = record {
-  long = ap length is ∙ length-replicate {A = ℕ} n 0 ∙ many;
-  same = refl;
-  read = λ ok end j some few. absurd (omega (arith, some, few, ap (λ (l : List ℕ). slice_index l end) is, none_counted n end));
-}
-
--- entry k of a list, from its end
-from_end : (w p n k end : ℕ) → k ≤ n → end ≡ p + w * n → end - w * (n - k) ≡ p + w * k
-from_end w p n k end few is =
-    let split : n ≡ k + (n - k) = omega (arith, few) in
-    omega (arith, is, ap (λ (m : ℕ). w * m) split)
+reduced-start offset w b counts n is many = grind (arith, length-replicate, get_or-replicate, get_or_past, cases_lt)
 
 entry_there : (w : ℕ) (b : List ℕ) (p n k end : ℕ) (r : ImportRecordView) → p + w * n ≤ length b → r.lookups ≡ range b p (w * n) → end ≡ p + w * n → k < n
     → (import_entry_at w r k).entry ≡ le b (end - w * (n - k)) w
 entry_there w b p n k end r inside same is lt =
     ap (λ (l : List ℕ). le l (w * k) w) same ∙ le_of_range b p (w * n) (w * k) w inside (column_fits w k w n lt (omega arith))
-    ∙ ap (λ (q : ℕ). le b q w) (sym (from_end w p n k end (omega (arith, lt)) is))
+    ∙ ap (λ (q : ℕ). le b q w) (sym (grind arith))
 
 -- one more record whose list stands at an offset
 listed_there : (offset : ℕ → Option ℕ) (w : ℕ) (b : List ℕ) (records kept : List ImportRecordView) (counts : List ℕ) (r short : ImportRecordView) (p n : ℕ) → 0 < w

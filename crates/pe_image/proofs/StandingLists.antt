@@ -1,25 +1,12 @@
 -- The lists of lookup entries of parsed records stand in the file, each where its RVA leads.
-use Rattle.std.proofs.Common.{◌≡◌, ℕ, zero, suc, ◌+◌, ◌*◌, ◌≤◌, Bool, true, false, List, [], ◌∷◌, length, Option, Some, None, Result, Ok, Err, refl, sym, ap, subst, ◌∙◌, arith}
-use Rattle.std.specs.Prelude.{IfSome, if◌then◌else◌}
-use Rattle.std.specs.List.{All}
-use Rattle.std.proofs.lemmas.Bool.Decides.{nat_tests}
-use Rattle.std.proofs.lemmas.List.{places}
-use Rattle.std.proofs.lemmas.List.Elements.{All-cons, All-nil, All-same}
+use Rattle.std.proofs.Common.{◌≡◌, ℕ, zero, suc, ◌+◌, ◌*◌, ◌≤◌, Bool, List, [], ◌∷◌, length, Option, Some, None, Result, Ok, Err, refl, sym, ap, subst, ◌∙◌, arith}
+use Rattle.pe_image.proofs.Cited.{IfSome, if◌then◌else◌, All, nat_tests, places, All-cons, All-nil, All-same, le, range, record_at}
+use Rattle.pe_image.proofs.Cited.{up_to_none, with_rest, ImportRecordView, import_data_at, import_record, import_record_at}
+use Rattle.pe_image.proofs.Cited.{import_records, is_last, lookup_at, lookup_entries, lookups_at, lookups_rva, name_or_refusal}
+use Rattle.pe_image.proofs.Cited.{import_entry, Refusal, each, mapped, text_at, DataDirectory, each_front, none_of_none, given}
+use Rattle.pe_image.proofs.Cited.{same_inside, import_data_of, AllStand, StandsAt, list_offset}
 use Rattle.std.proofs.Math.Nat.{mul-suc}
-use Rattle.pe_core.specs.Bytes.{le, range, record_at}
-use Rattle.pe_core.specs.Gathered.{up_to_none, with_rest}
-use Rattle.pe_core.specs.Imports.{ImportRecordView, import_data_at, import_record, import_record_at, import_records, is_last, lookup_at, lookup_entries, lookups_at, lookups_rva, name_or_refusal}
-use Rattle.pe_core.specs.Records.{import_entry}
-use Rattle.pe_core.specs.Refusals.{Refusal}
-use Rattle.pe_core.specs.Rows.{each}
-use Rattle.pe_core.specs.SectionMap.{mapped}
-use Rattle.pe_core.specs.Text.{text_at}
-use Rattle.pe_core.specs.declared.data_directories.DataDirectory.{DataDirectory}
 use Rattle.pe_core.specs.declared.import.ImportDirectoryEntry.{ImportDirectoryEntry}
-use Rattle.pe_core.proofs.EntryItems.{each_front, none_of_none}
-use Rattle.pe_core.proofs.Steps.{given, same_inside}
-use Rattle.pe_image.specs.Core.{import_data_of}
-use Rattle.pe_image.specs.SharedLists.{AllStand, StandsAt, list_offset}
 
 pub le_of_range : (b : List ℕ) (q m p n : ℕ) → q + m ≤ length b → p + n ≤ m → le (range b q m) p n ≡ le b (q + p) n
 unfolding le
@@ -28,14 +15,10 @@ le_of_range b q m p (suc n) h i = let fewer : le (range b q m) p n ≡ le b (q +
 
 -- rows of one width from an offset on: the first, and those after it
 pub rows_front : {X : Type 0} (row : ℕ → X) (w q n : ℕ) → each (λ k. row (q + w * k)) (suc n) ≡ row q ∷ each (λ k. row (q + w + w * k)) n
-rows_front {X} row w q n =
-    let first : q + w * 0 ≡ q = omega arith in
-    each_front (λ k. row (q + w * k)) (λ k. row (q + w + w * k)) n (λ k. ap row (omega (arith, mul-suc w k)))
-    ∙ ap (λ (p : ℕ). row p ∷ each (λ k. row (q + w + w * k)) n) first
+rows_front row w q n = grind (arith, each_front, mul-suc)
 
 pub after_first : {X : Type 0} (x : X) (rest : Result (List X) Refusal) (xs : List X) → with_rest (x ∷ []) rest ≡ Ok xs → (ys : List X) × (rest ≡ Ok ys) × (x ∷ ys ≡ xs)
-after_first x (Ok ys) xs e = (ys, refl, same_inside (x ∷ ys) xs e)
-after_first x (Err r) xs e = absurd cc
+after_first x rest xs e = grind (arith, same_inside)
 
 pub held : {Y : Type 0} (b : List ℕ) (p n : ℕ) (y z : Y) → record_at b p n y ≡ Ok z → p + n ≤ length b
 held b p n y z e = grind (arith, nat_tests)
@@ -43,17 +26,10 @@ held b p n y z e = grind (arith, nat_tests)
 -- the entries of a list that is returned are all there
 inside_by : (w : ℕ) (b : List ℕ) (q : ℕ) (es : List ℕ) (row : Result (Option ℕ) Refusal) (rows : List (Result (Option ℕ) Refusal)) → lookup_at w b q ≡ row → up_to_none (row ∷ rows) ≡ Ok es →
     ((ys : List ℕ) → up_to_none rows ≡ Ok ys → q + w ≤ length b → q + w + w * length ys ≤ length b) → q + w * length es ≤ length b
-inside_by w b q es (Ok None) rows e given more =
-    subst (λ (xs : List ℕ). q + w * length xs ≤ length b) (same_inside [] es given) (omega (arith, held b q w _ None e))
-inside_by w b q es (Ok (Some x)) rows e given more =
-    let after = after_first x (up_to_none rows) es given in
-    subst (λ (xs : List ℕ). q + w * length xs ≤ length b) after.2 (omega (arith, mul-suc w (length after.0), more after.0 after.1 (held b q w _ (Some x) e)))
-inside_by w b q es (Err r) rows e given more = absurd cc
+inside_by w b q es row rows e given more = grind (arith, same_inside, given, held, after_first, mul-suc)
 
 inside : (w : ℕ) (b : List ℕ) (n q : ℕ) (es : List ℕ) → up_to_none (each (λ k. lookup_at w b (q + w * k)) n) ≡ Ok es → q ≤ length b → q + w * length es ≤ length b
-inside w b zero q es e h =
-    let none : Ok [] ≡ Ok es = ap up_to_none (sym (none_of_none (λ k. lookup_at w b (q + w * k)))) ∙ e in
-    subst (λ (xs : List ℕ). q + w * length xs ≤ length b) (same_inside [] es none) (omega (arith, h))
+inside w b zero q es e h = grind (arith, none_of_none, same_inside)
 inside w b (suc n) q es e h =
     inside_by w b q es (lookup_at w b q) (each (λ k. lookup_at w b (q + w + w * k)) n) refl (ap up_to_none (sym (rows_front (lookup_at w b) w q n)) ∙ e) (λ ys f i. inside w b n (q + w) ys f i)
 
@@ -66,16 +42,12 @@ pub some_inside : {X : Type 0} (x y : X) → ◌≡◌ {A = Result (Option X) Re
 some_inside x y e = cc
 
 pub not_last : (last : Bool) (r : ImportRecordView) (more : Result (Option ImportRecordView) Refusal) → if◌then◌else◌ last (Ok None) more ≡ Ok (Some r) → more ≡ Ok (Some r)
-not_last true r more e = absurd cc
-not_last false r more e = e
+not_last last r more e = grind arith
 
 -- ---- the lists of records
 
 stands : (w : ℕ) (b list : List ℕ) (at : Option ℕ) → lookups_at w b at ≡ Ok list → StandsAt w b list at
-stands w b list None e = sym (same_inside [] list e)
-stands w b list (Some p) e =
-    let entries = given (lookup_entries w b p) (λ es. Ok (range b p (w * length es))) list e in
-    (length entries.0, list_inside w b p entries.0 entries.1, sym (same_inside (range b p (w * length entries.0)) list entries.2))
+stands w b list at e = grind (arith, same_inside, given, list_inside)
 
 -- the list of a record stands at its offset
 abbrev Stands : (ℕ → Option ℕ) → ℕ → List ℕ → ImportRecordView → Type 0
@@ -97,9 +69,7 @@ row_stands offset w b p r h =
 
 all_gathered : (P : ImportRecordView → Type 0) (row : ℕ → Result (Option ImportRecordView) Refusal) → ((p : ℕ) (r : ImportRecordView) → row p ≡ Ok (Some r) → P r)
     → (n p : ℕ) (rs : List ImportRecordView) → up_to_none (each (λ k. row (p + 20 * k)) n) ≡ Ok rs → All P rs
-all_gathered P row h zero p rs is =
-    let none : Ok [] ≡ Ok rs = ap up_to_none (sym (none_of_none (λ k. row (p + 20 * k)))) ∙ is in
-    All-same P rs [] (sym (same_inside [] rs none)) (All-nil P)
+all_gathered P row h zero p rs is = grind (arith, none_of_none, same_inside)
 all_gathered P row h (suc n) p rs is = by_row (row p) refl (ap up_to_none (sym (rows_front row 20 p n)) ∙ is) (all_gathered P row h n (p + 20))
   where
     by_row : (first : Result (Option ImportRecordView) Refusal) → row p ≡ first → up_to_none (first ∷ each (λ k. row (p + 20 + 20 * k)) n) ≡ Ok rs

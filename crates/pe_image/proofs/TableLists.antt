@@ -1,10 +1,7 @@
 -- The certificates of a table, counted while they are read.
-use Rattle.std.proofs.Common.{◌≡◌, ℕ, zero, suc, ◌+◌, ◌<◌, ◌≤◌, List, [], ◌∷◌, ◌++◌, length, Ok, Err, inl, inr, refl, ap, sym, ◌∙◌, arith}
-use Rattle.std.proofs.lemmas.List.{length-append}
-use Rattle.pe_core.specs.Refusals.{Refusal, CertificateTable}
-use Rattle.pe_records.specs.Certificates.{CertificateView, certificate_at, certificates_at}
-use Rattle.pe_records.proofs.CertificateListings.{StandFrom, listing, listing_is, next_above, refusal_is, refused, stand_push}
-use Rattle.pe_image.specs.CertificateLists.{listed}
+use Rattle.std.proofs.Common.{◌≡◌, ℕ, ◌+◌, ◌<◌, ◌≤◌, List, [], ◌∷◌, ◌++◌, length, Ok, Err, inl, inr, refl, ap, sym, ◌∙◌, arith}
+use Rattle.pe_image.proofs.Cited.{length-append, Refusal, CertificateTable, CertificateView, certificate_at, certificates_at}
+use Rattle.pe_image.proofs.Cited.{StandFrom, listing, listing_is, next_above, refusal_is, refused, stand_push, listed}
 
 -- n certificates stand one after the other from p on, each starts before the end, and the last ends at q
 pub record Counted (b : List ℕ) (end p q n : ℕ) : Type 0 where

@@ -1,12 +1,7 @@
 -- Headers as pieces.
 use Rattle.std.proofs.Common.{◌≡◌, ℕ, ◌+◌, ◌&&◌, length, arith}
-use Rattle.std.specs.Prelude.{nat_le}
-use Rattle.std.proofs.lemmas.Bool.Decides.{nat_tests}
-use Rattle.pe_core.specs.Header.{HeaderView, OptionalHeaderView}
-use Rattle.pe_core.specs.Spelling.{spell_optional}
-use Rattle.pe_image.specs.Overlay.{all_fit}
-use Rattle.pe_image.specs.Pieces.{header_pieces}
-use Rattle.pe_core.proofs.Splices.{length-bytes_of}
+use Rattle.pe_image.proofs.Cited.{nat_le, nat_tests, HeaderView, OptionalHeaderView, spell_optional, all_fit, header_pieces}
+use Rattle.pe_image.proofs.Cited.{length-bytes_of}
 use Rattle.pe_image.proofs.Laid.{length_coff, length_dos}
 
 pub headers_fit : (n : ℕ) (h : HeaderView) (o : OptionalHeaderView) → length h.dos_header.rest ≡ 58 → all_fit n (header_pieces h o) ≡ (nat_le 64 n && (nat_le (64 + length h.dos_stub) n && (nat_le (h.dos_header.pe_pointer + 4) n && (nat_le (h.dos_header.pe_pointer + 24) n && nat_le (h.dos_header.pe_pointer + 24 + length (spell_optional o)) n))))

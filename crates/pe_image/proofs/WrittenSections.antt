@@ -1,19 +1,10 @@
 -- Sections as pieces.
 use Rattle.std.proofs.Common.{◌≡◌, ℕ, zero, suc, ◌+◌, ◌-◌, ◌≤◌, ◌<◌, ◌&&◌, true, List, [], ◌∷◌, length, get_or, take, drop, replicate, refl, ap, length-drop, ◌∙◌, arith, ◌^◌, ◌||◌, Bool, false, cond, ◌++◌, sym, length-take}
-use Rattle.std.specs.Prelude.{Option, nat_le, ◌==◌, min, max, nat_lt, slice_index}
-use Rattle.std.proofs.lemmas.List.{drop_all, length-replicate, take_all, ext_get_or, places}
-use Rattle.std.proofs.lemmas.List.Edits.{length-between}
-use Rattle.std.proofs.lemmas.Bool.Decides.{nat_tests}
-use Rattle.std.proofs.lemmas.Bool.{or_right}
-use Rattle.pe_core.proofs.Equality.{and_true}
-use Rattle.pe_core.specs.Bytes.{holds, range, splice}
-use Rattle.pe_core.specs.Sections.{raw_end}
-use Rattle.pe_core.specs.Spelling.{spell_section}
-use Rattle.pe_core.specs.declared.section_table.SectionTable.{SectionTable}
-use Rattle.pe_image.specs.Overlay.{all_fit, Piece, byte_after, has_byte, piece}
-use Rattle.pe_image.specs.Pieces.{all_section_pieces, header_width, lacking, section_pieces}
-use Rattle.pe_image.specs.Writing.{all_in_source}
-use Rattle.pe_image.specs.WritingSteps.{covered, parts_outside, put_in_turn, section_parts, next_range}
+use Rattle.pe_image.proofs.Cited.{Option, nat_le, ◌==◌, min, nat_lt, slice_index, drop_all, length-replicate, take_all, ext_get_or}
+use Rattle.pe_image.proofs.Cited.{places, length-between, nat_tests, or_right, and_true, holds, range, splice, raw_end}
+use Rattle.pe_image.proofs.Cited.{spell_section, SectionTable, all_fit, Piece, byte_after, has_byte, piece, all_section_pieces}
+use Rattle.pe_image.proofs.Cited.{header_width, lacking, section_pieces, all_in_source, covered, parts_outside, put_in_turn}
+use Rattle.pe_image.proofs.Cited.{section_parts, next_range}
 use Rattle.pe_image.proofs.Clashes.{by_cases}
 use Rattle.pe_image.proofs.Overlays.{byte_after_cons, get_or-put, length-put}
 use Rattle.pe_image.proofs.Rows.{Goes, goes_fits, goes_next, goes_last, and_right, rest_at, and_left, all_fit_append}
@@ -29,8 +20,7 @@ has_piece q [] = false
 has_piece q (x ∷ xs) = has_byte q x || has_piece q xs
 
 first : (t u : Bool) (v a b : ℕ) (r : ℕ → ℕ) → (t || u) ≡ true → (u ≡ true → r a ≡ r b) → r (cond t v a) ≡ r (cond t v b)
-first true u v a b r h f = refl
-first false u v a b r h f = f h
+first t u v a b r h f = grind arith
 
 any_byte : (xs : List Piece) (q a b : ℕ) → has_piece q xs ≡ true → byte_after xs q a ≡ byte_after xs q b
 any_byte [] q a b h = absurd cc
@@ -61,8 +51,6 @@ in_range (start, end) q = nat_le start q && nat_lt q end
 -- what is before one offset of a piece and after another is as if it were written whole
 byte_of_parts : (p : ℕ) (s : List ℕ) (n m q old : ℕ) → n ≤ m → m ≤ length s → (nat_lt q p || (nat_lt q (p + n) || nat_le (p + m) q)) ≡ true → byte_after (piece p (take n s) ∷ piece (p + m) (drop m s) ∷ []) q old ≡ byte_after (piece p s ∷ []) q old
 byte_of_parts p s n m q old h k e =
-    let l : length (take n s) ≡ n = length-take n s ∙ (omega arith) in
-    let r : length (drop m s) ≡ length s - m = length-drop m s in
     let one : ℕ = byte_after (piece p (take n s) ∷ []) q old in
     byte_after_append (piece p (take n s) ∷ []) (piece (p + m) (drop m s) ∷ []) q old
     ∙ (byte_after_one (piece (p + m) (drop m s)) q one
@@ -70,8 +58,7 @@ byte_of_parts p s n m q old h k e =
 
 -- outside the range the parts leave what the piece leaves
 byte_outside : (c : ℕ × ℕ) (p : ℕ) (s : List ℕ) (q old : ℕ) → in_range c q ≡ false → byte_after (parts_outside c p s) q old ≡ byte_after (piece p s ∷ []) q old
-byte_outside (start, end) p s q old h =
-    byte_of_parts p s (min (start - p) (length s)) (max (min (start - p) (length s)) (min (end - p) (length s))) q old (omega arith) (omega arith) (grind (arith, nat_tests))
+byte_outside c p s q old h = grind (arith, byte_of_parts, nat_tests)
 
 byte_of_section : (c : ℕ × ℕ) (b : List ℕ) (unit : Option ℕ) (offset : ℕ) (s : SectionTable) (q old : ℕ) → in_range c q ≡ false → byte_after (section_parts c b unit offset s) q old ≡ byte_after (section_pieces b unit offset s) q old
 unfolding section_parts section_pieces
@@ -90,42 +77,15 @@ byte_of_section c b unit offset s q old h =
     ∙ (byte_outside c (raw_end s) zeros q middle h
     ∙ sym (byte_after_append (piece s.pointer_to_raw_data raw ∷ header ∷ []) (piece (raw_end s) zeros ∷ []) q old)))))
 
--- ---- all parts fit
-
-parts_fit : (n : ℕ) (c : ℕ × ℕ) (p : ℕ) (s : List ℕ) → p + length s ≤ n → all_fit n (parts_outside c p s) ≡ true
-parts_fit n (start, end) p s h =
-    rw (length-take (min (start - p) (length s)) s, length-drop (max (min (start - p) (length s)) (min (end - p) (length s))) s) (grind (arith, nat_tests))
-
-section_parts_fit : (n : ℕ) (c : ℕ × ℕ) (b : List ℕ) (unit : Option ℕ) (offset : ℕ) (s : SectionTable) → all_fit n (section_pieces b unit offset s) ≡ true → all_fit n (section_parts c b unit offset s) ≡ true
-unfolding section_parts section_pieces
-section_parts_fit n c b unit offset s h =
-    let raw : List ℕ = range b s.pointer_to_raw_data s.size_of_raw_data in
-    let zeros : List ℕ = replicate (lacking s.size_of_raw_data unit) 0 in
-    let x : List Piece = parts_outside c s.pointer_to_raw_data raw in
-    let z : List Piece = parts_outside c (raw_end s) zeros in
-    let a : s.pointer_to_raw_data + length raw ≤ n = grind (arith, nat_tests) in
-    let e : raw_end s + length zeros ≤ n = grind (arith, nat_tests) in
-    let m : nat_le (offset + length (spell_section s)) n ≡ true = and_left _ _ (and_right _ _ h) in
-    all_fit_append n x (piece offset (spell_section s) ∷ z)
-    ∙ and_true _ _ (parts_fit n c s.pointer_to_raw_data raw a) (and_true _ _ m (parts_fit n c (raw_end s) zeros e))
-
 -- ---- what the next section covers
 
 in_data : (b : List ℕ) (unit : Option ℕ) (offset : ℕ) (s : SectionTable) (q : ℕ) → holds b s.pointer_to_raw_data s.size_of_raw_data ≡ true → in_range (s.pointer_to_raw_data, min (raw_end s + lacking s.size_of_raw_data unit) (2 ^ 64 - 1)) q ≡ true → has_piece q (section_pieces b unit offset s) ≡ true
 unfolding section_pieces
-in_data b unit offset s q i h =
-    let inside : raw_end s ≤ length b = grind (arith, nat_tests) in
-    let d : length (range b s.pointer_to_raw_data s.size_of_raw_data) ≡ s.size_of_raw_data = length-between b s.pointer_to_raw_data (raw_end s) inside ∙ (omega arith) in
-    let z : length {A = ℕ} (replicate (lacking s.size_of_raw_data unit) 0) ≡ lacking s.size_of_raw_data unit = length-replicate _ 0 in
-    rw (d, z) (grind (arith, nat_tests))
-
-left_too : (a b c : Bool) → (a || b) ≡ true → (b ≡ true → c ≡ true) → (a || c) ≡ true
-left_too true b c h f = refl
-left_too false b c h f = f h
+in_data b unit offset s q i h = grind (arith, nat_tests, length-between, length-replicate)
 
 has_piece_left : (xs ys : List Piece) (q : ℕ) → has_piece q xs ≡ true → has_piece q (xs ++ ys) ≡ true
 has_piece_left [] ys q h = absurd cc
-has_piece_left (x ∷ xs) ys q h = left_too (has_byte q x) (has_piece q xs) (has_piece q (xs ++ ys)) h (has_piece_left xs ys q)
+has_piece_left (x ∷ xs) ys q h = grind (arith, has_piece_left xs ys q)
 
 in_next : (b : List ℕ) (unit : Option ℕ) (offset : ℕ) (after : List SectionTable) (q : ℕ) → all_in_source b after ≡ true → in_range (next_range unit after) q ≡ true → has_piece q (all_section_pieces b unit offset after) ≡ true
 in_next b unit offset [] q i h = absurd (grind (arith, nat_tests))
@@ -136,46 +96,34 @@ in_next b unit offset (s ∷ after) q i h =
     (λ e. has_piece_left (section_pieces b unit offset s) (all_section_pieces b unit (offset + 40) after) q
     (in_data b unit offset s q (and_left _ _ i) (rw e at h)))
 
-in_covered : (b : List ℕ) (unit : Option ℕ) (offset : ℕ) (s : SectionTable) (after : List SectionTable) (q : ℕ) → all_in_source b after ≡ true → in_range (covered unit s after) q ≡ true → has_piece q (all_section_pieces b unit offset after) ≡ true
-in_covered b unit offset s after q i h =
-    by_cases (s.size_of_raw_data == 0)
-    (λ e. let h : in_range (0, 0) q ≡ true = rw e at h in absurd (grind (arith, nat_tests)))
-    (λ e. in_next b unit offset after q i (rw e at h))
-
 -- ---- later pieces leave the same
-
-same_at : (xs : List Piece) (q a b : ℕ) (t : Bool) → (t ≡ true → has_piece q xs ≡ true) → (t ≡ false → a ≡ b) → byte_after xs q a ≡ byte_after xs q b
-same_at xs q a b true f g = any_byte xs q a b (f refl)
-same_at xs q a b false f g = ap (byte_after xs q) (g refl)
 
 -- bytes that differ where later pieces cover them alone are the same after these
 same_later : (xs : List Piece) (a b : List ℕ) (t : ℕ → Bool) → length a ≡ length b → all_fit (length b) xs ≡ true → ((q : ℕ) → t q ≡ true → has_piece q xs ≡ true) → ((q : ℕ) → t q ≡ false → get_or a q 0 ≡ get_or b q 0) → put_in_turn a xs ≡ put_in_turn b xs
 same_later xs a b t l h f g =
     let k : all_fit (length a) xs ≡ true = rw l h in
     ext_get_or 0 (put_in_turn a xs) (put_in_turn b xs) (length-put xs a k ∙ (l ∙ sym (length-put xs b h)))
-    (λ q lt. get_or-put xs a q k ∙ (same_at xs q (get_or a q 0) (get_or b q 0) (t q) (f q) (g q) ∙ sym (get_or-put xs b q h)))
+    (λ q lt. get_or-put xs a q k ∙ ((grind (arith, any_byte, f q, g q)) ∙ sym (get_or-put xs b q h)))
 
 -- after the later sections a section may as well be written outside what the next of them covers
 pub later_sections : (now b : List ℕ) (unit : Option ℕ) (offset : ℕ) (s : SectionTable) (after : List SectionTable) → all_in_source b after ≡ true → all_fit (length now) (section_pieces b unit offset s) ≡ true → all_fit (length now) (all_section_pieces b unit (offset + 40) after) ≡ true → put_in_turn (put_in_turn now (section_parts (covered unit s after) b unit offset s)) (all_section_pieces b unit (offset + 40) after) ≡ put_in_turn (put_in_turn now (section_pieces b unit offset s)) (all_section_pieces b unit (offset + 40) after)
+unfolding section_parts section_pieces
 later_sections now b unit offset s after i h k =
     let c : ℕ × ℕ = covered unit s after in
     let parts : List Piece = section_parts c b unit offset s in
     let whole : List Piece = section_pieces b unit offset s in
-    let j : all_fit (length now) parts ≡ true = section_parts_fit (length now) c b unit offset s h in
+    let j : all_fit (length now) parts ≡ true =
+    grind (arith, nat_tests, and_left, and_right, all_fit_append, and_true, length-take, length-drop) in
     let l : length (put_in_turn now parts) ≡ length now = length-put parts now j in
     let m : length (put_in_turn now whole) ≡ length now = length-put whole now h in
     same_later (all_section_pieces b unit (offset + 40) after) (put_in_turn now parts) (put_in_turn now whole) (in_range c) (l ∙ sym m) (rw m k)
-    (λ q e. in_covered b unit (offset + 40) s after q i e)
+    (λ q e. grind (arith, by_cases, nat_tests, in_next))
     (λ q e. get_or-put parts now q j ∙ (byte_of_section c b unit offset s q (get_or now q 0) e ∙ sym (get_or-put whole now q h)))
 
 -- the pieces of a section fit exactly if its data, its header and its zeros do
 pub section_fit : (n : ℕ) (b : List ℕ) (unit : Option ℕ) (offset : ℕ) (s : SectionTable) → length s.name ≡ 8 → holds b s.pointer_to_raw_data s.size_of_raw_data ≡ true → all_fit n (section_pieces b unit offset s) ≡ (nat_le (raw_end s) n && (nat_le (offset + 40) n && nat_le (raw_end s + lacking s.size_of_raw_data unit) n))
 unfolding section_pieces
-section_fit n b unit offset s h i =
-    let inside : raw_end s ≤ length b = grind (arith, nat_tests) in
-    let d : length (range b s.pointer_to_raw_data s.size_of_raw_data) ≡ s.size_of_raw_data = length-between b s.pointer_to_raw_data (raw_end s) inside ∙ (omega arith) in
-    let z : length {A = ℕ} (replicate (lacking s.size_of_raw_data unit) 0) ≡ lacking s.size_of_raw_data unit = length-replicate _ 0 in
-    rw (d, length_section s h, z) (grind (arith, nat_tests))
+section_fit n b unit offset s h i = grind (arith, nat_tests, length-between, length-replicate, length_section)
 
 abbrev pub no_section : SectionTable
 no_section = record { name = []; virtual_size = 0; virtual_address = 0; size_of_raw_data = 0; pointer_to_raw_data = 0; pointer_to_relocations = 0; pointer_to_linenumbers = 0; number_of_relocations = 0; number_of_linenumbers = 0; characteristics = 0 }
@@ -211,16 +159,12 @@ next_goes old b unit start sections now next offset i d c h l inside g k e =
     }
 
 pub all_gone : (old b : List ℕ) (unit : Option ℕ) (start : ℕ) (sections : List SectionTable) (now : List ℕ) (offset i : ℕ) → length sections ≤ i → GoesSections old b unit start sections now offset i → now ≡ put_in_turn old (all_section_pieces b unit start sections)
-all_gone old b unit start sections now offset i h g =
-    goes_last (section_pieces b unit) header_width old start sections now offset (rw (drop_all i sections h) at g)
-
-offset_fits : (n : ℕ) (b : List ℕ) (unit : Option ℕ) (offset : ℕ) (s : SectionTable) → all_fit n (section_pieces b unit offset s) ≡ true → offset ≤ n
-unfolding section_pieces
-offset_fits n b unit offset s h = grind (arith, nat_tests)
+all_gone old b unit start sections now offset i h g = grind (arith, goes_last, drop_all)
 
 pub offset_inside : (old b : List ℕ) (unit : Option ℕ) (start : ℕ) (sections : List SectionTable) (now : List ℕ) (offset i : ℕ) (d : SectionTable) → i < length sections → length now ≡ length old → GoesSections old b unit start sections now offset i → offset ≤ length now
+unfolding section_pieces
 offset_inside old b unit start sections now offset i d h l g =
-    offset_fits (length now) b unit offset (get_or sections i d) (next_fits old b unit start sections now offset i d h l g)
+    grind (arith, nat_tests, next_fits old b unit start sections now offset i d h l g)
 
 -- ---- parts of a section
 

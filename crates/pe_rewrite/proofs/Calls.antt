@@ -1,20 +1,11 @@
 -- What the calls return.
-use Rattle.std.proofs.Common.{◌≡◌, ◌≢◌, ℕ, ◌+◌, ◌-◌, ◌^◌, ◌<◌, ◌≤◌, Bool, true, false, List, [], ◌∷◌, length, Result, Ok, Err, refl, ap, sym, ◌∙◌, subst, arith}
-use Rattle.std.specs.Prelude.{nat_le, if◌then◌else◌}
-use Rattle.pe_core.specs.Bytes.{fit_at, splice}
-use Rattle.pe_core.specs.Header.{HeaderView}
-use Rattle.pe_core.specs.Refusals.{Refusal, WriteFit, outcome, ◌>>=◌}
-use Rattle.pe_edit.specs.Written.{Leaf, section}
-use Rattle.pe_edit.specs.EditRefusals.{section_of}
-use Rattle.pe_rewrite.specs.Edited.{CanMove, GoneLies, Inside, Lies, at_end, cleared_file, edited_file, edited_length, edited_of, gone_file, in_place, moved_file, or_at_end, removed_of, roomy_file, stayed_file, wants_room, with_pointers, without_section, written}
-use Rattle.pe_rewrite.specs.Places.{header_tests, place_of, target_of}
-use Rattle.pe_rewrite.specs.Removals.{emptied_of, gone_of}
-use Rattle.pe_rewrite.specs.RewriteRefusals.{RewriteRefusal, Image, RewriteReturns, RewriteReturnsWritten}
+use Rattle.std.proofs.Common.{◌≡◌, ◌≢◌, ℕ, ◌+◌, ◌-◌, ◌^◌, ◌<◌, ◌≤◌, Bool, true, false, List, length, Result, Ok, Err, ap, sym, ◌∙◌, subst, arith}
+use Rattle.pe_rewrite.proofs.Cited.{if◌then◌else◌, fit_at, splice, HeaderView, Refusal, outcome, ◌>>=◌, Leaf, section, section_of}
+use Rattle.pe_rewrite.proofs.Cited.{CanMove, GoneLies, Inside, Lies, at_end, cleared_file, edited_file, edited_length, edited_of}
+use Rattle.pe_rewrite.proofs.Cited.{gone_file, in_place, moved_file, or_at_end, removed_of, roomy_file, stayed_file, wants_room}
+use Rattle.pe_rewrite.proofs.Cited.{with_pointers, without_section, written, header_tests, place_of, target_of, emptied_of, gone_of}
+use Rattle.pe_rewrite.proofs.Cited.{RewriteRefusal, Image, RewriteReturns, RewriteReturnsWritten, room_of, Place, Target, Room}
 use Rattle.pe_rewrite.specs.declared.error.RewriteError.{RewriteError}
-use Rattle.pe_rewrite.specs.Rooms.{room_of}
-use Rattle.pe_rewrite.specs.declared.place.Place.{Place}
-use Rattle.pe_rewrite.specs.declared.place.Target.{Target}
-use Rattle.pe_rewrite.specs.declared.room.Room.{Room}
 use Rattle.pe_rewrite.proofs.Placed.{HeadersLie, TargetIs, headers_lie, placed_value, place_lies, place_made, placed, target_is}
 use Rattle.pe_rewrite.proofs.Pointers.{can_move, length_can, lies_with}
 use Rattle.pe_rewrite.proofs.Results.{length_value, then_is, written_done, written_short}
@@ -80,76 +71,38 @@ moved_file_returned b h xs m n old new u e is i at = written_done (at_end b h xs
 -- ---- one of the two
 
 refused_length : (r : Result (List ℕ) RewriteRefusal) (k : RewriteRefusal) → edited_length r ≡ Err k → r ≡ Err k
-refused_length (Ok f) k e = absurd cc
-refused_length (Err l) k e = cc
+refused_length r k e = grind arith
 
 pub length_first : (r s : Result (List ℕ) RewriteRefusal) (n : ℕ) → edited_length r ≡ Ok n → edited_length (or_at_end r s) ≡ Ok n
-length_first (Ok f) s n e = e
-length_first (Err l) s n e = absurd cc
+length_first r s n e = grind arith
 
 second_is : (r s : Result (List ℕ) RewriteRefusal) (k : RewriteRefusal) → r ≡ Err k → wants_room k ≡ true → or_at_end r s ≡ s
 second_is r s k e wants = ap (λ (x : Result (List ℕ) RewriteRefusal). or_at_end x s) e ∙ ap (λ (t : Bool). if t then s else Err k) wants
 
-first_is : (r s : Result (List ℕ) RewriteRefusal) (k : RewriteRefusal) → r ≡ Err k → wants_room k ≡ false → or_at_end r s ≡ Err k
-first_is r s k e wants = ap (λ (x : Result (List ℕ) RewriteRefusal). or_at_end x s) e ∙ ap (λ (t : Bool). if t then s else Err k) wants
-
-length_second : (r s : Result (List ℕ) RewriteRefusal) (k : RewriteRefusal) → edited_length r ≡ Err k → wants_room k ≡ true → edited_length (or_at_end r s) ≡ edited_length s
-length_second r s k e wants = ap edited_length (second_is r s k (refused_length r k e) wants)
-
-length_refused : (r s : Result (List ℕ) RewriteRefusal) (k : RewriteRefusal) → edited_length r ≡ Err k → wants_room k ≡ false → edited_length (or_at_end r s) ≡ Err k
-length_refused r s k e wants = ap edited_length (first_is r s k (refused_length r k e) wants)
-
 pub written_first : (r s : Result (List ℕ) RewriteRefusal) (old : List ℕ) (v : ℕ × List ℕ) → written r old ≡ Ok v → written (or_at_end r s) old ≡ Ok v
-written_first (Ok f) s old v e = e
-written_first (Err l) s old v e = absurd cc
-
--- a file that does not fit wants no room
-fit_refused : (t : Bool) (x : ℕ × List ℕ) (k : RewriteRefusal) → outcome ((t, Image WriteFit) ∷ []) x ≡ Err k → wants_room k ≡ true → ⊥
-fit_refused true x k e wants = absurd cc
-fit_refused false x k e wants =
-    let is : Image WriteFit ≡ k = cc in
-    let no : wants_room k ≡ false = ap wants_room (sym is) in
-    absurd cc
-
-refused_written : (r : Result (List ℕ) RewriteRefusal) (old : List ℕ) (k : RewriteRefusal) → written r old ≡ Err k → wants_room k ≡ true → r ≡ Err k
-refused_written (Ok f) old k e wants = absurd (fit_refused (nat_le (length f) (length old)) (length f, splice old 0 f) k e wants)
-refused_written (Err l) old k e wants = cc
-
-written_second : (r s : Result (List ℕ) RewriteRefusal) (old : List ℕ) (k : RewriteRefusal) → written r old ≡ Err k → wants_room k ≡ true → written (or_at_end r s) old ≡ written s old
-written_second r s old k e wants = ap (λ (x : Result (List ℕ) RewriteRefusal). written x old) (second_is r s k (refused_written r old k e wants) wants)
-
-written_neither : (r s : Result (List ℕ) RewriteRefusal) (old : List ℕ) (k : RewriteRefusal) → written r old ≡ Err k → wants_room k ≡ false → written (or_at_end r s) old ≡ Err k
-written_neither (Ok f) s old k e wants = e
-written_neither (Err l) s old k e wants =
-    let is : l ≡ k = cc in
-    let no : wants_room l ≡ false = ap wants_room is ∙ wants in
-    ap (λ (t : Bool). written (if t then s else Err l) old) no ∙ e
+written_first r s old v e = grind arith
 
 -- ---- what the calls return of both
 
 pub len_second : (res : Result ℕ RewriteError) (r s : Result (List ℕ) RewriteRefusal) (k : RewriteRefusal) (t : Bool) → edited_length r ≡ Err k → t ≡ wants_room k → t ≡ true → RewriteReturns res (edited_length s) → RewriteReturns res (edited_length (or_at_end r s))
-len_second res r s k t e is wants h = subst (λ (d : Result ℕ RewriteRefusal). RewriteReturns res d) (sym (length_second r s k e (sym is ∙ wants))) h
+len_second res r s k t e is wants h = grind (arith, second_is, refused_length)
 
 pub len_neither : (r s : Result (List ℕ) RewriteRefusal) (k : RewriteRefusal) (t : Bool) → edited_length r ≡ Err k → t ≡ wants_room k → t ≡ false → edited_length (or_at_end r s) ≡ Err k
-len_neither r s k t e is wants = length_refused r s k e (sym is ∙ wants)
+len_neither r s k t e is wants = grind (arith, refused_length)
 
 pub write_second : (res : Result ℕ RewriteError) (r s : Result (List ℕ) RewriteRefusal) (old mid new : List ℕ) (k : RewriteRefusal) (t : Bool) → (written r old ≡ Err k) × (mid ≡ old) → t ≡ wants_room k → t ≡ true → RewriteReturnsWritten res (written s mid) mid new → RewriteReturnsWritten res (written (or_at_end r s) old) old new
-write_second res r s old mid new k t e is wants h =
-    subst (λ (d : Result (ℕ × List ℕ) RewriteRefusal). RewriteReturnsWritten res d old new) (sym (written_second r s old k e.0 (sym is ∙ wants)))
-    (subst (λ (o : List ℕ). RewriteReturnsWritten res (written s o) o new) e.1 h)
+write_second res r s old mid new k t e is wants h = grind (arith, second_is)
 
 pub write_neither : (r s : Result (List ℕ) RewriteRefusal) (old mid : List ℕ) (k : RewriteRefusal) (t : Bool) → (written r old ≡ Err k) × (mid ≡ old) → t ≡ wants_room k → t ≡ false → (written (or_at_end r s) old ≡ Err k) × (mid ≡ old)
-write_neither r s old mid k t e is wants = (written_neither r s old k e.0 (sym is ∙ wants), e.1)
+write_neither r s old mid k t e is wants = grind arith
 
 -- ---- without leaves, or with some
 
 pub without_leaves : (b : List ℕ) (h : HeaderView) (xs : List Leaf) → length xs ≡ 0 → edited_of b h xs ≡ removed_of b h
-without_leaves b h [] e = refl
-without_leaves b h (x ∷ xs) e = absurd (omega (arith, e))
+without_leaves b h xs e = grind arith
 
 pub with_leaves : (b : List ℕ) (h : HeaderView) (xs : List Leaf) → length xs ≢ 0 → edited_of b h xs ≡ or_at_end (in_place b h xs) (at_end b h xs)
-with_leaves b h [] e = absurd (e refl)
-with_leaves b h (x ∷ xs) e = refl
+with_leaves b h xs e = grind arith
 
 -- ---- the image without resources
 
@@ -160,18 +113,13 @@ pub record Found (b : List ℕ) (h : HeaderView) (t : Target) : Type 0 where
   pub value : removed_of b h ≡ Ok (cleared_file h t.entry (without_section h (gone_of b h t) (emptied_of b h t) b))
 
 pub found : (b : List ℕ) (h : HeaderView) (t : Target) (u : Unit {0}) → target_of h ≡ Ok t → outcome {Y = Unit {0}} (header_tests b h t) tt ≡ Ok u → Found b h t
-found b h t u e i = record {
-  of = target_is h t e;
-  headers = headers_lie b h t u i;
-  value = then_is (target_of h) _ t e ∙ then_is (outcome {Y = Unit {0}} (header_tests b h t) tt) (λ v. Ok (cleared_file h t.entry (without_section h (gone_of b h t) (emptied_of b h t) b))) u i;
-}
+found b h t u e i = grind (arith, target_is, headers_lie, then_is)
 
 pub gone_is : (b : List ℕ) (h : HeaderView) (t : Target) (m : Room) → Found b h t → gone_of b h t ≡ Ok m → removed_of b h ≡ Ok (cleared_file h m.place.entry (gone_file h m b))
 gone_is b h t m x e =
     let y : IsGone b h t m = is_gone b h t m x.headers e in
     let entry : t.entry ≡ m.place.entry = ap (λ (r : Room). r.place.entry) y.value in
-    x.value ∙ ap (λ (r : Result Room RewriteRefusal). Ok (cleared_file h t.entry (without_section h r (emptied_of b h t) b))) e
-    ∙ ap (λ (k : ℕ). Ok (cleared_file h k (gone_file h m b))) entry
+    grind (arith, x.value, e, entry)
 
 pub stayed_is : (b : List ℕ) (h : HeaderView) (t : Target) (k : RewriteRefusal) → Found b h t → gone_of b h t ≡ Err k → removed_of b h ≡ Ok (cleared_file h t.entry (stayed_file (emptied_of b h t) b))
 stayed_is b h t k x e = x.value ∙ ap (λ (r : Result Room RewriteRefusal). Ok (cleared_file h t.entry (without_section h r (emptied_of b h t) b))) e
@@ -189,10 +137,7 @@ gone_length b h t m x e =
     length_cleared h m.place.entry (gone_file h m b) (omega (arith, size, l.fields.sum, l.fields.entry, l.fields.row, l.end)) (omega (arith, size, l.fields.entry, l.fields.row, l.end)) ∙ size
 
 pub stayed_length : (b : List ℕ) (h : HeaderView) (t : Target) → Found b h t → length (cleared_file h t.entry (stayed_file (emptied_of b h t) b)) ≡ length b
-stayed_length b h t x =
-    let size : length (stayed_file (emptied_of b h t) b) ≡ length b = length_stayed b h t (emptied_of b h t) refl in
-    let in_file : EntryIn h t.entry (length b) = entry_found b h t x in
-    length_cleared h t.entry (stayed_file (emptied_of b h t) b) (omega (arith, size, in_file.sum, in_file.entry)) (omega (arith, size, in_file.entry)) ∙ size
+stayed_length b h t x = grind (arith, size, length_stayed, entry_found, length_cleared)
 
 pub gone_most : (b : List ℕ) (h : HeaderView) (t : Target) (m : Room) → Found b h t → gone_of b h t ≡ Ok m → m.more ≤ length b
 gone_most b h t m x e = let l : GoneLies h m (length b) = lies_gone b h t m x e in omega (arith, l.end)

@@ -1,28 +1,15 @@
 -- The debug entries of a file that an edit writes with its resources at the end, and their data.
-use Rattle.std.proofs.Common.{◌≡◌, ℕ, ◌+◌, ◌*◌, ◌%◌, ◌^◌, ◌<◌, ◌≤◌, Bool, true, false, List, length, get_or, take, drop, Option, Some, Ok, refl, ap, sym, ◌∙◌, ⊎_elim, arith}
-use Rattle.std.specs.Prelude.{nat_lt, if◌then◌else◌}
-use Rattle.std.proofs.lemmas.Bool.{cases_lt}
-use Rattle.std.proofs.lemmas.Bool.Decides.{nat_tests}
-use Rattle.std.proofs.lemmas.List.{ext_get_or, get_or-drop, length-drop}
-use Rattle.pe_core.specs.Bytes.{AreBytes, le, range}
-use Rattle.pe_core.specs.Header.{HeaderView, OptionalHeaderView}
-use Rattle.pe_core.specs.SectionMap.{offset_of, section_map}
-use Rattle.pe_core.specs.Sections.{sections_offset}
-use Rattle.pe_core.specs.declared.options.ParseOptions.{ParseOptions}
-use Rattle.pe_core.proofs.NumberBytes.{le-same, le_small}
-use Rattle.pe_edit.specs.Written.{Leaf}
-use Rattle.pe_records.specs.DebugDirectory.{debug_entry_at}
-use Rattle.pe_sign.proofs.Digests.{range_below, range_past}
-use Rattle.pe_rewrite.specs.Edited.{RoomLies, at_end, moved_pointer, pointer_at, with_pointers}
-use Rattle.pe_rewrite.specs.Places.{debug_entries, directory_at, directory_in, entries_by, section_headers}
-use Rattle.pe_rewrite.specs.Rooms.{moved, room_of}
-use Rattle.pe_rewrite.specs.WrittenImages.{entries_at, entry_offset, moved_entry}
-use Rattle.pe_rewrite.specs.declared.place.Target.{Target}
-use Rattle.pe_rewrite.specs.declared.room.Room.{Room}
+use Rattle.std.proofs.Common.{◌≡◌, ℕ, ◌+◌, ◌*◌, ◌%◌, ◌^◌, ◌<◌, ◌≤◌, true, List, length, get_or, take, drop, Some, Ok, refl, ap, sym, ◌∙◌, ⊎_elim, arith}
+use Rattle.pe_rewrite.proofs.Cited.{cases_lt, nat_tests, ext_get_or, get_or-drop, length-drop, AreBytes, le, range, HeaderView}
+use Rattle.pe_rewrite.proofs.Cited.{OptionalHeaderView, section_map, sections_offset, ParseOptions, le-same, le_small, Leaf}
+use Rattle.pe_rewrite.proofs.Cited.{debug_entry_at, range_below, range_past, RoomLies, at_end, moved_pointer, pointer_at}
+use Rattle.pe_rewrite.proofs.Cited.{with_pointers, debug_entries, directory_at, section_headers, moved, room_of, entries_at}
+use Rattle.pe_rewrite.proofs.Cited.{entry_offset, moved_entry, Target, Room, same_some}
+use Rattle.pe_rewrite.proofs.WrittenSections.{four_false}
 use Rattle.pe_rewrite.proofs.Placed.{TargetIs}
 use Rattle.pe_rewrite.proofs.Pointers.{byte_with, data_before_end, entries_end, entries_in, pointer_read, pointers_fit}
 use Rattle.pe_rewrite.proofs.RoomBytes.{roomy_byte}
-use Rattle.pe_rewrite.proofs.RoomImages.{IsMoved, bytes_after, four_false, is_moved, length_moved, roomy_stays, some_is}
+use Rattle.pe_rewrite.proofs.RoomImages.{IsMoved, bytes_after, is_moved, length_moved, roomy_stays}
 use Rattle.pe_rewrite.proofs.RoomPlaced.{TableIs, table_is}
 use Rattle.pe_rewrite.proofs.Roomy.{HasDebug, has_debug, room_lies}
 
@@ -94,12 +81,8 @@ rest_moved b h xs m f p small e i from =
     ext_get_or 0 (drop (p + m.more) f) (drop p b) (length-drop (p + m.more) f ∙ omega (arith, length_moved b h xs m f small e i) ∙ sym (length-drop p b))
     (λ k lt. get_or-drop (p + m.more) f k 0 ∙ ap (λ (q : ℕ). get_or f q 0) (omega arith) ∙ bytes_after b h xs m f (p + k) small e i (omega (arith, from)) ∙ sym (get_or-drop p b k 0))
 
-moved_after : (t : Bool) (p more : ℕ) → t ≡ false → (if t then p else p + more) ≡ p + more
-moved_after true p more e = absurd cc
-moved_after false p more e = refl
-
 pub moved_on : (end more p : ℕ) → end ≤ p → moved end more p ≡ p + more
-moved_on end more p from = let not : nat_lt p end ≡ false = grind (arith, nat_tests, from) in moved_after (nat_lt p end) p more not
+moved_on end more p from = grind (arith, nat_tests)
 
 same_bytes : (f b : List ℕ) (q p n : ℕ) → drop q f ≡ drop p b → range f q n ≡ range b p n
 same_bytes f b q p n e = ap (λ (k : ℕ). take k (drop q f)) (omega arith) ∙ ap (λ (l : List ℕ). take n l) e ∙ ap (λ (k : ℕ). take k (drop p b)) (omega arith)
@@ -110,13 +93,7 @@ data_moved b h xs m f p n small e i from = ap (λ (q : ℕ). range f q n) (moved
 -- where they are
 pub entries_there : (o : ParseOptions) (b : List ℕ) (h : HeaderView) (t : Target) (of : TargetIs h t) (w : OptionalHeaderView) (q : ℕ) → h.optional_header ≡ Some w → o.resolve_rva ≡ true →
     section_map o (section_headers b h) w.windows_fields.file_alignment (directory_at w 6).virtual_address ≡ Some q → debug_entries b h t ≡ entries_at q (directory_at w 6)
-entries_there o b h t of w q some resolves there =
-    let rva : ℕ = (directory_at w 6).virtual_address in
-    let same : w ≡ of.optional = some_is w of.optional (sym some ∙ of.some) in
-    let alignment : w.windows_fields.file_alignment ≡ t.file_alignment = ap (λ (x : OptionalHeaderView). x.windows_fields.file_alignment) same ∙ ap (λ (t : Target). t.file_alignment) of.value in
-    let mapped : offset_of true t.file_alignment (section_headers b h) rva ≡ Some q = ap (λ (n : ℕ). offset_of true n (section_headers b h) rva) (sym alignment) ∙ ap (λ (r : Bool). offset_of r w.windows_fields.file_alignment (section_headers b h) rva) (sym resolves) ∙ there in
-    ap (λ (o : Option OptionalHeaderView). let e = directory_in o 6 in entries_by (offset_of true t.file_alignment (section_headers b h) e.virtual_address) e t.size_of_headers) some
-    ∙ ap (λ (o : Option ℕ). entries_by o (directory_at w 6) t.size_of_headers) mapped
+entries_there o b h t of w q some resolves there = grind (arith, same_some)
 
 pub entries_are : (o : ParseOptions) (b : List ℕ) (h : HeaderView) (xs : List Leaf) (m : Room) (w : OptionalHeaderView) (q : ℕ) → room_of b h xs ≡ Ok m → h.optional_header ≡ Some w → o.resolve_rva ≡ true →
     section_map o (section_headers b h) w.windows_fields.file_alignment (directory_at w 6).virtual_address ≡ Some q → m.debug ≡ entries_at q (directory_at w 6)

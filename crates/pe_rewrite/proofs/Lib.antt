@@ -1,3 +1,4 @@
+mod Cited
 pub mod Results
 pub mod Writes
 pub mod RoomWrites

@@ -1,22 +1,10 @@
 -- What the loops over sections and directories have found.
 use Rattle.std.proofs.Common.{◌≡◌, ℕ, ◌<◌, ◌≤◌, ◌==◌, ◌&&◌, Bool, true, false, List, length, Some, Ok, Err, refl, ap, sym, ◌∙◌, arith}
-use Rattle.std.specs.List.{list_all, position_or_len}
-use Rattle.std.proofs.lemmas.Bool.Decides.{nat_tests}
-use Rattle.std.proofs.lemmas.List.Sums.{position_or_len_is}
-use Rattle.pe_core.specs.Header.{HeaderView}
-use Rattle.pe_core.specs.Rows.{each}
-use Rattle.pe_core.specs.declared.section_table.SectionTable.{SectionTable}
-use Rattle.pe_core.proofs.Comparisons.{lt_is, lt_is_not}
-use Rattle.pe_core.proofs.EntryItems.{get_or-each, length-each}
-use Rattle.pe_core.specs.Header.{OptionalHeaderView}
-use Rattle.pe_core.specs.declared.data_directories.DataDirectory.{DataDirectory}
-use Rattle.pe_sign.proofs.SectionRows.{one_fails}
-use Rattle.pe_rewrite.specs.Places.{debug_apart, entries_apart, entry_apart, grows_clear, index_of, is_alone, is_apart, is_clear, is_outside, leads_out, section_header, sections_apart}
-use Rattle.pe_rewrite.specs.Rooms.{debug_moves, entries_lie, entry_moves, is_before_or_same, is_last}
-use Rattle.pe_rewrite.specs.RewriteRefusals.{NoSection}
-use Rattle.pe_rewrite.specs.declared.debug.DebugEntries.{DebugEntries}
-use Rattle.pe_rewrite.specs.declared.place.Target.{Target}
-use Rattle.pe_rewrite.specs.declared.room.LastSection.{LastSection}
+use Rattle.pe_rewrite.proofs.Cited.{list_all, position_or_len, nat_tests, position_or_len_is, HeaderView, each, SectionTable, lt_is}
+use Rattle.pe_rewrite.proofs.Cited.{lt_is_not, get_or-each, length-each, OptionalHeaderView, DataDirectory, one_fails, debug_apart}
+use Rattle.pe_rewrite.proofs.Cited.{entries_apart, entry_apart, grows_clear, index_of, is_alone, is_apart, is_clear, is_outside}
+use Rattle.pe_rewrite.proofs.Cited.{leads_out, section_header, sections_apart, debug_moves, entries_lie, entry_moves}
+use Rattle.pe_rewrite.proofs.Cited.{is_before_or_same, is_last, NoSection, DebugEntries, Target, LastSection}
 
 -- ---- the first section at an RVA
 
@@ -38,10 +26,7 @@ index_found b h rva i some lt none here =
     rw (is, lt_is 0 rva some, lt_is i n lt) refl
 
 pub index_missing : (b : List ℕ) (h : HeaderView) (rva : ℕ) → 0 < rva → ((k : ℕ) → k < h.coff_header.number_of_sections → ((section_header b h k).virtual_address == rva) ≡ false) → index_of b h rva ≡ Err NoSection
-index_missing b h rva some none =
-    let n : ℕ = h.coff_header.number_of_sections in
-    let is = first_at (section_header b h) n rva n (omega arith) none (λ x. absurd (omega (arith, x))) in
-    rw (is, lt_is 0 rva some, lt_is_not n n (omega arith)) refl
+index_missing b h rva some none = grind (arith, first_at, lt_is, lt_is_not)
 
 pub index_found_at : (b : List ℕ) (h : HeaderView) (rva i : ℕ) (s : SectionTable) → 0 < rva → i < h.coff_header.number_of_sections → ((k : ℕ) → k < i → ((section_header b h k).virtual_address == rva) ≡ false) → s ≡ section_header b h i → s.virtual_address ≡ rva → index_of b h rva ≡ Ok i
 index_found_at b h rva i s some lt none is at =
@@ -60,8 +45,7 @@ pub last_fails : (b : List ℕ) (h : HeaderView) (t : Target) (l : LastSection) 
 last_fails b h t l k lt e = one_fails (is_before_or_same b h t l) (λ j. j) h.coff_header.number_of_sections k lt e
 
 and_false : (a : Bool) → (a && false) ≡ false
-and_false true = refl
-and_false false = refl
+and_false a = grind arith
 
 pub debug_fails : (b : List ℕ) (h : HeaderView) (l : LastSection) (k : ℕ) → k < l.debug.count → entry_moves b l k ≡ false → debug_moves b h l ≡ false
 debug_fails b h l k lt e = ap (λ (t : Bool). entries_lie h l && t) (one_fails (entry_moves b l) (λ j. j) l.debug.count k lt e) ∙ and_false (entries_lie h l)

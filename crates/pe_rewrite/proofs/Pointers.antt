@@ -1,31 +1,14 @@
 -- The image with the pointers of its debug entries moved: all else is as it was.
-use Rattle.std.proofs.Common.{◌≡◌, ℕ, zero, suc, ◌+◌, ◌-◌, ◌*◌, ◌/◌, ◌%◌, ◌^◌, ◌<◌, ◌≤◌, ◌==◌, ◌&&◌, ◌||◌, ◌⊎◌, inl, inr, Bool, true, false, cond, List, ◌++◌, length, get_or, take, drop, replicate, refl, ap, sym, ◌∙◌, subst, ⊎_elim, arith}
-use Rattle.std.specs.Prelude.{nat_le, nat_lt, if◌then◌else◌}
-use Rattle.std.proofs.lemmas.Bool.{cases_lt}
-use Rattle.std.proofs.lemmas.Bool.Decides.{nat_tests}
+use Rattle.std.proofs.Common.{◌≡◌, ℕ, zero, suc, ◌+◌, ◌-◌, ◌*◌, ◌/◌, ◌^◌, ◌<◌, ◌≤◌, ◌==◌, ◌&&◌, ◌||◌, ◌⊎◌, Bool, true, false, List, ◌++◌, length, get_or, take, drop, replicate, refl, ap, sym, ◌∙◌, subst, ⊎_elim, arith}
+use Rattle.pe_rewrite.proofs.Cited.{cases_lt, nat_tests, drop_at, take-append-drop, take_at, length-take-le, AreBytes, bytes_of, le}
+use Rattle.pe_rewrite.proofs.Cited.{splice, HeaderView, section_table, raw_end, sections_offset, SectionTable, le_is, lt_is}
+use Rattle.pe_rewrite.proofs.Cited.{each_same, le-same, get_or-splice, length-bytes_of, length-splice, Leaf, range_below}
+use Rattle.pe_rewrite.proofs.Cited.{range_past, splice_first, CanMove, EntriesLie, PointersFit, RoomLies, is_pointer, moved_pointer}
+use Rattle.pe_rewrite.proofs.Cited.{pointer_at, pointers_moved, with_pointers, with_zeros, section_header, section_headers}
+use Rattle.pe_rewrite.proofs.Cited.{data_moves, entries_lie, entry_moves, is_before, is_before_or_same, is_last, moved, room_at}
+use Rattle.pe_rewrite.proofs.Cited.{table_end, Target, DebugEntries, LastSection, Room, both}
 use Rattle.std.proofs.lemmas.Nat.{mod-mul-add}
-use Rattle.std.proofs.lemmas.List.{drop_at, take-append-drop, take_at, length-take-le}
-use Rattle.pe_core.specs.Bytes.{AreBytes, bytes_of, le, splice}
-use Rattle.pe_core.specs.Header.{HeaderView}
-use Rattle.pe_core.specs.Records.{section_table}
-use Rattle.pe_core.specs.Sections.{raw_end, sections_offset}
-use Rattle.pe_core.specs.declared.section_table.SectionTable.{SectionTable}
-use Rattle.pe_core.proofs.Comparisons.{le_is, lt_is}
-use Rattle.pe_core.proofs.EntryItems.{each_same}
-use Rattle.pe_core.proofs.NumberBytes.{le-same}
-use Rattle.pe_core.proofs.Splices.{get_or-splice, length-bytes_of, length-splice}
-use Rattle.pe_edit.specs.Written.{Leaf}
-use Rattle.pe_sign.proofs.Digests.{range_below, range_past}
-use Rattle.pe_sign.proofs.Splices.{splice_first}
-use Rattle.pe_rewrite.specs.Edited.{CanMove, EntriesLie, PointersFit, RoomLies, is_pointer, moved_pointer, pointer_at, pointers_moved, with_pointers, with_zeros}
-use Rattle.pe_rewrite.specs.Places.{section_header, section_headers}
-use Rattle.pe_rewrite.specs.Rooms.{data_moves, entries_lie, entry_moves, is_before, is_before_or_same, is_last, is_u32, moved, room_at, table_end}
-use Rattle.pe_rewrite.specs.declared.place.Target.{Target}
-use Rattle.pe_rewrite.specs.declared.debug.DebugEntries.{DebugEntries}
-use Rattle.pe_rewrite.specs.declared.room.LastSection.{LastSection}
-use Rattle.pe_rewrite.specs.declared.room.Room.{Room}
 use Rattle.pe_rewrite.proofs.Placed.{HeadersLie}
-use Rattle.pe_rewrite.proofs.Results.{first_of}
 use Rattle.pe_rewrite.proofs.Roomy.{HasDebug, HasRoom, IsLast, RoomFits, room_lies}
 use Rattle.pe_rewrite.proofs.Stays.{Past, byte_past, number_stays, number_there}
 use Rattle.pe_rewrite.proofs.Writes.{inner}
@@ -58,10 +41,6 @@ byte_small zero v k = omega arith
 byte_small (suc n) v zero = omega arith
 byte_small (suc n) v (suc k) = byte_small n (v / 256) k
 
-cond_small : (t : Bool) (x y : ℕ) → x < 256 → y < 256 → cond t x y < 256
-cond_small true x y h i = h
-cond_small false x y h i = i
-
 pub small_pointers : (m : Room) (b : List ℕ) (n : ℕ) (f : List ℕ) → (0 < n → m.debug.offset + 28 * n ≤ length f) → AreBytes f → AreBytes (pointers_moved m b n f)
 unfolding pointers_moved
 small_pointers m b zero f h small k = small k
@@ -71,7 +50,7 @@ small_pointers m b (suc n) f h small k =
     let p : ℕ = pointer_at m.debug n in
     let s : List ℕ = bytes_of 4 (moved_pointer m b n) in
     subst (λ (v : ℕ). v < 256) (sym (get_or-splice g p s k (omega (arith, length_pointers m b n f less, h (omega arith), length-bytes_of 4 (moved_pointer m b n)))))
-    (cond_small (nat_le p k && nat_lt k (p + length s)) (get_or s (k - p) 0) (get_or g k 0) (byte_small 4 (moved_pointer m b n) (k - p)) (small_pointers m b n f less small k))
+    (grind (arith, byte_small 4 (moved_pointer m b n) (k - p), small_pointers m b n f less small k))
 
 -- what is read of a pointer
 pub pointer_read : (m : Room) (b : List ℕ) (n : ℕ) (f : List ℕ) (k : ℕ) → (0 < n → m.debug.offset + 28 * n ≤ length f) → moved_pointer m b k < 2 ^ 32 → k < n → le (pointers_moved m b n f) (pointer_at m.debug k) 4 ≡ moved_pointer m b k
@@ -94,27 +73,8 @@ pointer_read m b (suc n) f k h fit lt =
 
 -- ---- by the test of a file offset
 
-in_entry : (d : DebugEntries) (k j : ℕ) → j < d.count → pointer_at d j ≤ k → k < pointer_at d j + 4 → is_pointer d k ≡ true
-in_entry d k j lt from to =
-    let place : k - d.offset ≡ j * 28 + (k - d.offset - j * 28) = omega (arith, from) in
-    let rest : (k - d.offset) % 28 ≡ k - d.offset - j * 28 = ap (λ (n : ℕ). n % 28) place ∙ mod-mul-add j 28 (k - d.offset - j * 28) (omega (arith, from, to)) in
-    let start : nat_le d.offset k ≡ true = le_is d.offset k (omega (arith, from)) in
-    let end : nat_lt k (d.offset + 28 * d.count) ≡ true = lt_is k (d.offset + 28 * d.count) (omega (arith, to, lt)) in
-    let last : nat_le 24 ((k - d.offset) % 28) ≡ true = le_is 24 ((k - d.offset) % 28) (omega (arith, rest, from)) in
-    rw (start, end, last) refl
-
-no_both : (t : Bool) → t ≡ true → t ≡ false → ⊥
-no_both true e f = absurd cc
-no_both false e f = absurd cc
-
 pub pointer_missed : (d : DebugEntries) (k : ℕ) → is_pointer d k ≡ false → (j : ℕ) → j < d.count → Past (pointer_at d j) 4 k
-pointer_missed d k out j lt = ⊎_elim
-    (λ (below : k < pointer_at d j). range_below (pointer_at d j) 4 k below)
-    (λ (from : pointer_at d j ≤ k). ⊎_elim
-    (λ (to : k < pointer_at d j + 4). absurd (no_both (is_pointer d k) (in_entry d k j lt from to) out))
-    (λ (past : pointer_at d j + 4 ≤ k). range_past (pointer_at d j) 4 k past)
-    (cases_lt k (pointer_at d j + 4)))
-    (cases_lt k (pointer_at d j))
+pointer_missed d k out j lt = grind (arith, range_below, range_past, cases_lt, mod-mul-add, le_is, lt_is)
 
 -- ---- zeros put in after them
 
@@ -151,18 +111,10 @@ pointers_front m b old f (suc n) e d h lie =
 -- ---- the image
 
 pub lie_by : (t u v : Bool) → (t || (u && v)) ≡ true → t ≡ false → (u ≡ true) × (v ≡ true)
-lie_by true u v e f = absurd cc
-lie_by false true true e f = (refl, refl)
-lie_by false true false e f = absurd cc
-lie_by false false v e f = absurd cc
+lie_by t u v e f = grind arith
 
 pub lie_at : (h : HeaderView) (t : Target) (n : ℕ) (l : LastSection) → entries_lie h l ≡ true → EntriesLie h (room_at h t n l)
-lie_at h t n l e some =
-    let none : (l.debug.count == 0) ≡ false = grind (arith, nat_tests, some) in
-    let both = lie_by (l.debug.count == 0) (nat_le (table_end h l.index) l.debug.offset) (nat_le (l.debug.offset + 28 * l.debug.count) l.section.pointer_to_raw_data) e none in
-    let start : table_end h l.index ≤ l.debug.offset = grind (arith, nat_tests, both.0) in
-    let end : l.debug.offset + 28 * l.debug.count ≤ l.section.pointer_to_raw_data = grind (arith, nat_tests, both.1) in
-    (start, end)
+lie_at h t n l e = grind (arith, nat_tests, both, lie_by)
 
 pub entries_in : (b : List ℕ) (h : HeaderView) (xs : List Leaf) (m : Room) → HasRoom b h xs m → EntriesLie h m
 entries_in b h xs m x = subst (λ (r : Room). EntriesLie h r) x.value (lie_at h x.target x.length_of x.section x.fits.entries)
@@ -173,34 +125,11 @@ data_before_end b h xs m x = subst (λ (r : Room). r.place.section.pointer_to_ra
 pub entries_end : (b : List ℕ) (h : HeaderView) (xs : List Leaf) (m : Room) → HasRoom b h xs m → 0 < m.debug.count → m.debug.offset + 28 * m.debug.count ≤ length b
 entries_end b h xs m x some = omega (arith, (entries_in b h xs m x some).1, data_before_end b h xs m x, (room_lies b h xs m x).end)
 
-moved_by : (t : Bool) (p more n : ℕ) → p < n → p + more < n → (if t then p else p + more) < n
-moved_by true p more n h i = h
-moved_by false p more n h i = i
-
-moved_low : (end more p n : ℕ) → end + more < n → p ≤ end → moved end more p < n
-moved_low end more p n h le = moved_by (nat_lt p end) p more n (omega (arith, h, le)) (omega (arith, h, le))
-
 pub or_of : (t u : Bool) → (t || u) ≡ true → (t ≡ true) ⊎ (u ≡ true)
-or_of true u e = inl e
-or_of false u e = inr e
-
-both_of : (t u : Bool) → (t && u) ≡ true → u ≡ true
-both_of true u e = e
-both_of false u e = absurd cc
+or_of t u e = grind arith
 
 entry_fits : (b : List ℕ) (l : LastSection) (e : ℕ) → raw_end l.section + l.more < 256 ^ 4 → data_moves b l e ≡ true → moved (raw_end l.section) l.more (le b (e + 24) 4) < 2 ^ 32
-entry_fits b l e end h =
-    let p : ℕ = le b (e + 24) 4 in
-    let either : (nat_le (p + le b (e + 16) 4) l.section.pointer_to_raw_data || (nat_le (raw_end l.section) p && is_u32 (p + l.more))) ≡ true = first_of (nat_le (p + le b (e + 16) 4) l.section.pointer_to_raw_data || (nat_le (raw_end l.section) p && is_u32 (p + l.more))) _ h in
-    ⊎_elim
-    (λ (stays : nat_le (p + le b (e + 16) 4) l.section.pointer_to_raw_data ≡ true).
-    let before : p + le b (e + 16) 4 ≤ l.section.pointer_to_raw_data = grind (arith, nat_tests, stays) in
-    moved_low (raw_end l.section) l.more p (2 ^ 32) (omega (arith, end)) (omega (arith, before)))
-    (λ (moves : (nat_le (raw_end l.section) p && is_u32 (p + l.more)) ≡ true).
-    let small : is_u32 (p + l.more) ≡ true = both_of (nat_le (raw_end l.section) p) (is_u32 (p + l.more)) moves in
-    let less : p + l.more < 2 ^ 32 = grind (arith, nat_tests, small) in
-    moved_by (nat_lt p (raw_end l.section)) p l.more (2 ^ 32) (omega (arith, less)) less)
-    (or_of (nat_le (p + le b (e + 16) 4) l.section.pointer_to_raw_data) (nat_le (raw_end l.section) p && is_u32 (p + l.more)) either)
+entry_fits b l e end h = grind (arith, both, nat_tests, or_of)
 
 pub pointers_fit : (b : List ℕ) (h : HeaderView) (m : Room) → HasDebug b h m → PointersFit m b
 pointers_fit b h m d k lt =
@@ -313,12 +242,7 @@ no_pointers m b f = refl
 pub one_pointer : (m : Room) (b : List ℕ) (n v w : ℕ) (old out new : List ℕ) → out ≡ pointers_moved m b n old → w ≡ le b (pointer_at m.debug n) 4 → v ≡ moved m.end m.more w → new ≡ splice out (pointer_at m.debug n) (bytes_of 4 v) →
     new ≡ pointers_moved m b (n + 1) old
 unfolding pointers_moved
-one_pointer m b n v w old out new so read is set =
-    let q : ℕ = pointer_at m.debug n in
-    let next : suc n ≡ n + 1 = omega arith in
-    subst (λ (k : ℕ). new ≡ pointers_moved m b k old) next
-    (set ∙ ap (λ (o : List ℕ). splice o q (bytes_of 4 v)) so ∙ ap (λ (x : ℕ). splice (pointers_moved m b n old) q (bytes_of 4 x)) (is ∙ ap (moved m.end m.more) read))
+one_pointer m b n v w old out new so read is set = grind arith
 
 pub one_length : (m : Room) (b old out new : List ℕ) (n v : ℕ) → new ≡ splice out (pointer_at m.debug n) (bytes_of 4 v) → n < m.debug.count → (0 < m.debug.count → m.debug.offset + 28 * m.debug.count ≤ length b) → length b ≤ length old → length out ≡ length old → length new ≡ length old
-one_length m b old out new n v set lt inside room so =
-    ap length set ∙ length-splice out (pointer_at m.debug n) (bytes_of 4 v) (omega (arith, length-bytes_of 4 v, lt, inside (omega (arith, lt)), room, so)) ∙ so
+one_length m b old out new n v set lt inside room so = grind (arith, length-splice, length-bytes_of)

@@ -1,45 +1,26 @@
 -- The laws, of the file of an image without resources.
-use Rattle.std.proofs.Common.{◌≡◌, ◌≢◌, ℕ, zero, suc, ◌+◌, ◌-◌, ◌*◌, ◌^◌, ◌<◌, ◌≤◌, ◌==◌, ◌&&◌, Bool, true, false, cond, List, [], length, get_or, take, drop, replicate, Option, Some, None, Result, Ok, Err, refl, ap, sym, ◌∙◌, subst, ⊎_elim, arith}
-use Rattle.std.specs.Prelude.{nat_le, nat_lt, if◌then◌else◌}
-use Rattle.std.specs.Option.{option_map}
-use Rattle.std.proofs.lemmas.Bool.{cases_lt}
-use Rattle.std.proofs.lemmas.Bool.Decides.{nat_tests}
-use Rattle.std.proofs.lemmas.List.{ext_get_or, get_or-append_right, get_or-drop, get_or-replicate, get_or-take, get_or_append_left, length-replicate, length-set, length-take-le, take_all}
-use Rattle.pe_core.specs.Bytes.{AreBytes, le, splice}
-use Rattle.pe_core.specs.Directories.{absent_directory}
-use Rattle.pe_core.specs.Header.{HeaderView, OptionalHeaderView, directories_offset, header_at}
-use Rattle.pe_core.specs.Refusals.{outcome}
-use Rattle.pe_core.specs.Records.{data_directory}
-use Rattle.pe_core.specs.Rows.{each}
-use Rattle.pe_core.specs.SectionMap.{covers, offset_by, offset_of, section_map}
-use Rattle.pe_core.specs.Sections.{raw_end, sections_offset}
-use Rattle.pe_core.specs.declared.options.ParseMode.{ParseMode}
-use Rattle.pe_core.specs.declared.options.ParseOptions.{ParseOptions}
-use Rattle.pe_core.specs.declared.section_table.SectionTable.{SectionTable}
-use Rattle.pe_core.proofs.EntryItems.{get_or-each, length-each}
-use Rattle.pe_core.proofs.Map.{positive}
-use Rattle.pe_core.proofs.Splices.{get_or-splice}
-use Rattle.pe_sign.specs.WrittenHeaders.{directories_end, directories_end_after, headers_changed}
-use Rattle.pe_sign.proofs.Digests.{range_below, range_past}
-use Rattle.pe_sign.proofs.HeadersStay.{headers_change, Stays, wide}
-use Rattle.pe_rewrite.specs.Edited.{FieldsLie, GoneLies, cleared_file, cut, edited_of, gone_file, removed_of, stayed_file, sum_of}
-use Rattle.pe_rewrite.specs.Places.{header_tests, headers_end, index_of, is_outside, section_header, section_headers, target_of}
-use Rattle.pe_rewrite.specs.Removals.{emptied_of, ends_table, gone_at, gone_of, gone_tests}
-use Rattle.pe_rewrite.specs.RewriteRefusals.{RewriteRefusal}
-use Rattle.pe_rewrite.specs.Rooms.{is_before, is_before_or_same, own_section, room_beside, table_end}
-use Rattle.pe_rewrite.specs.WrittenImages.{entry_of, headers_roomy, is_emptied_at, is_emptied_over, is_gone_over, optional_roomy}
-use Rattle.pe_rewrite.specs.declared.place.Place.{Place}
-use Rattle.pe_rewrite.specs.declared.place.Target.{Target}
-use Rattle.pe_rewrite.specs.declared.room.LastSection.{LastSection}
-use Rattle.pe_rewrite.specs.declared.room.Room.{Room}
+use Rattle.std.proofs.Common.{◌≡◌, ◌≢◌, ℕ, zero, suc, ◌+◌, ◌-◌, ◌*◌, ◌<◌, ◌≤◌, ◌==◌, ◌&&◌, Bool, true, false, List, [], length, get_or, take, replicate, Option, Some, None, Result, Ok, Err, refl, ap, sym, ◌∙◌, subst, arith}
+use Rattle.pe_rewrite.proofs.Cited.{nat_le, nat_lt, if◌then◌else◌, option_map, cases_lt, nat_tests, ext_get_or, get_or-append_right}
+use Rattle.pe_rewrite.proofs.Cited.{get_or-drop, get_or-replicate, get_or-take, get_or_append_left, length-replicate, length-set}
+use Rattle.pe_rewrite.proofs.Cited.{length-take-le, take_all, AreBytes, le, splice, absent_directory, HeaderView}
+use Rattle.pe_rewrite.proofs.Cited.{OptionalHeaderView, directories_offset, header_at, outcome, data_directory, each, covers}
+use Rattle.pe_rewrite.proofs.Cited.{offset_by, offset_of, section_map, sections_offset, ParseMode, ParseOptions, SectionTable}
+use Rattle.pe_rewrite.proofs.Cited.{get_or-each, length-each, positive, get_or-splice, directories_end, directories_end_after}
+use Rattle.pe_rewrite.proofs.Cited.{headers_changed, range_below, range_past, headers_change, Stays, wide, FieldsLie, GoneLies}
+use Rattle.pe_rewrite.proofs.Cited.{cleared_file, cut, edited_of, gone_file, removed_of, stayed_file, sum_of, header_tests}
+use Rattle.pe_rewrite.proofs.Cited.{headers_end, index_of, is_outside, section_header, section_headers, target_of, emptied_of}
+use Rattle.pe_rewrite.proofs.Cited.{ends_table, gone_at, gone_of, gone_tests, RewriteRefusal, is_before, is_before_or_same}
+use Rattle.pe_rewrite.proofs.Cited.{own_section, room_beside, table_end, entry_of, headers_roomy, is_emptied_at, is_emptied_over}
+use Rattle.pe_rewrite.proofs.Cited.{is_gone_over, optional_roomy, Place, Target, LastSection, Room, or_parts, same_some, same_ok}
+use Rattle.pe_rewrite.proofs.Cited.{passed, value_is, both}
 use Rattle.pe_rewrite.proofs.Calls.{Found, entry_found, found, gone_is, lies_gone, stayed_is, stayed_length}
 use Rattle.pe_rewrite.proofs.Mapped.{Covered, by_each, covered_of, covers_none, first_some, found_each, maps_but_one, offset_none}
-use Rattle.pe_rewrite.proofs.Placed.{HeadersLie, TargetIs}
+use Rattle.pe_rewrite.proofs.Placed.{TargetIs}
 use Rattle.pe_rewrite.proofs.Removed.{EntryIn, IsEmptied, IsGone, emptied_inside, entry_before, length_stayed, fields_cut, is_emptied, is_gone, length_cleared, length_gone, length_zeroed}
-use Rattle.pe_rewrite.proofs.RoomBytes.{SmallRoom, fields_byte, fields_read}
+use Rattle.pe_rewrite.proofs.RoomBytes.{fields_byte, fields_read}
 use Rattle.pe_rewrite.proofs.RoomHeaders.{headers_with_room, same_by}
-use Rattle.pe_rewrite.proofs.RoomImages.{file_roomy, first_false, six_of, sum_roomy}
-use Rattle.pe_rewrite.proofs.Results.{first_of, first_ok, passed, second_of, then_is, value_is}
+use Rattle.pe_rewrite.proofs.RoomImages.{file_roomy, six_of, sum_roomy}
+use Rattle.pe_rewrite.proofs.Results.{first_ok, then_is}
 use Rattle.pe_rewrite.proofs.RoomMapped.{within}
 use Rattle.pe_rewrite.proofs.Stays.{Past, byte_past, sum_byte}
 use Rattle.pe_rewrite.proofs.WrittenHeaders.{sum_read, sum_stays}
@@ -48,8 +29,7 @@ use Rattle.pe_rewrite.proofs.WrittenSections.{all_by, other_index, out_of, row_s
 -- ---- an entry of zeros
 
 pub cleared_byte : (h : HeaderView) (e : ℕ) (b : List ℕ) (k : ℕ) → h.dos_header.pe_pointer + 92 ≤ length b → e + 8 ≤ length b → Past e 8 k → Past (h.dos_header.pe_pointer + 88) 4 k → get_or (cleared_file h e b) k 0 ≡ get_or b k 0
-cleared_byte h e b k sum entry out past =
-    sum_byte h (splice b e (replicate 8 0)) k (omega (arith, length_zeroed e b entry, sum)) past ∙ byte_past b e (replicate 8 0) 8 k (length-replicate {A = ℕ} 8 0) entry out
+cleared_byte h e b k sum entry out past = grind (arith, sum_byte, length_zeroed, byte_past, length-replicate)
 
 -- n bytes of zeros are the number 0
 le_zeros : (f : List ℕ) (p n : ℕ) → ((k : ℕ) → p ≤ k → k < p + n → get_or f k 0 ≡ 0) → le f p n ≡ 0
@@ -61,27 +41,17 @@ le_zeros f p (suc n) all =
     rw (rest, last) (omega arith)
 
 zero_in : (b : List ℕ) (e n k : ℕ) → e + n ≤ length b → e ≤ k → k < e + n → get_or (splice b e (replicate n 0)) k 0 ≡ 0
-zero_in b e n k h from lt =
-    let size : length (replicate n 0) ≡ n = length-replicate {A = ℕ} n 0 in
-    let inside : (nat_le e k && nat_lt k (e + length (replicate n 0))) ≡ true = grind (arith, nat_tests, size, from, lt) in
-    get_or-splice b e (replicate n 0) k (omega (arith, size, h)) ∙ ap (λ (t : Bool). cond t (get_or (replicate n 0) (k - e) 0) (get_or b k 0)) inside ∙ get_or-replicate n (k - e) 0 0 (omega (arith, from, lt))
+zero_in b e n k h from lt = grind (arith, length-replicate, nat_tests, get_or-splice, get_or-replicate)
 
 cleared_zero : (h : HeaderView) (e : ℕ) (b : List ℕ) (k : ℕ) → h.dos_header.pe_pointer + 92 ≤ e → e + 8 ≤ length b → e ≤ k → k < e + 8 → get_or (cleared_file h e b) k 0 ≡ 0
 cleared_zero h e b k sum entry from lt =
     sum_byte h (splice b e (replicate 8 0)) k (omega (arith, length_zeroed e b entry, sum, entry)) (range_past (h.dos_header.pe_pointer + 88) 4 k (omega (arith, from, sum))) ∙ zero_in b e 8 k entry from lt
 
-cleared_directory : (h : HeaderView) (e : ℕ) (b : List ℕ) → h.dos_header.pe_pointer + 92 ≤ e → e + 8 ≤ length b → data_directory (cleared_file h e b) e ≡ absent_directory
-unfolding data_directory
-cleared_directory h e b sum entry =
-    rw (
-      le_zeros (cleared_file h e b) e 4 (λ k from lt. cleared_zero h e b k sum entry from (omega (arith, lt))),
-      le_zeros (cleared_file h e b) (e + 4) 4 (λ k from lt. cleared_zero h e b k sum entry (omega (arith, from)) (omega (arith, lt))),
-    ) refl
-
 -- the headers of an image b are parsed in a file g with the same headers, with it
 headers_cleared : (mode : ParseMode) (g b : List ℕ) (h : HeaderView) (o : OptionalHeaderView) (e : ℕ) → header_at b mode ≡ Ok h → h.optional_header ≡ Some o →
     e ≡ h.dos_header.pe_pointer + 24 + directories_offset (o.standard_fields.magic == 0x20B) + 8 * 2 → e + 8 ≤ directories_end h → directories_end h ≤ length b → directories_end h ≤ length g →
     ((k : ℕ) → k < directories_end h → get_or g k 0 ≡ get_or b k 0) → header_at (cleared_file h e g) mode ≡ Ok (headers_changed 2 absent_directory (sum_of h (cleared_file h e g)) h)
+unfolding data_directory
 headers_cleared mode g b h o e parsed some at inside end there head =
     let c : ℕ = h.dos_header.pe_pointer + 88 in
     let f : List ℕ = cleared_file h e g in
@@ -101,27 +71,16 @@ headers_cleared mode g b h o e parsed some at inside end there head =
     } in
     let z : List ℕ = splice g e (replicate 8 0) in
     let room : h.dos_header.pe_pointer + 92 ≤ length z = omega (arith, length_zeroed e g entry, far) in
-    headers_change f b mode h o 2 e absent_directory parsed some at stays (cleared_directory h e g sum entry)
+    headers_change f b mode h o 2 e absent_directory parsed some at stays (grind (arith, le_zeros, cleared_zero))
     ∙ ap (λ (n : ℕ). Ok (headers_changed 2 absent_directory n h)) (sum_read h z room ∙ sym (sum_stays h z room))
 
 -- ---- bytes that are taken out
 
 cut_before : (p n k : ℕ) (b : List ℕ) → p + n ≤ length b → k < p → get_or (cut p n b) k 0 ≡ get_or b k 0
 unfolding cut
-cut_before p n k b h lt =
-    let size : length (take p b) ≡ p = length-take-le p b (omega (arith, h)) in
-    get_or_append_left (take p b) (drop (p + n) b) 0 k (omega (arith, size, lt)) ∙ get_or-take p b k 0 lt
-
-cut_after : (p n k : ℕ) (b : List ℕ) → p + n ≤ length b → p ≤ k → get_or (cut p n b) k 0 ≡ get_or b (k + n) 0
-unfolding cut
-cut_after p n k b h from =
-    let size : length (take p b) ≡ p = length-take-le p b (omega (arith, h)) in
-    get_or-append_right (take p b) (drop (p + n) b) p k 0 size from ∙ get_or-drop (p + n) b (k - p) 0 ∙ ap (λ (j : ℕ). get_or b j 0) (omega (arith, from))
+cut_before p n k b h lt = grind (arith, length-take-le, get_or_append_left, get_or-take)
 
 -- ---- the file
-
-same_ok : {X R : Type 0} (r : Result X R) (x y : X) → r ≡ Ok x → r ≡ Ok y → x ≡ y
-same_ok r x y e i = cc
 
 found_by : (b : List ℕ) (h : HeaderView) (t : Target) (f : List ℕ) → target_of h ≡ Ok t → removed_of b h ≡ Ok f → Found b h t
 found_by b h t f e i =
@@ -155,14 +114,7 @@ pub record GoneIs (b : List ℕ) (h : HeaderView) (t : Target) (m : Room) : Type
   pub entry : m.place.entry ≡ t.entry
 
 pub gone_section : (b : List ℕ) (h : HeaderView) (t : Target) (m : Room) → IsGone b h t m → GoneIs b h t m
-gone_section b h t m x = subst (GoneIs b h t) x.value (record {
-  count = x.last;
-  row = refl;
-  start = omega (arith, x.fits.start);
-  pointer = refl;
-  size = refl;
-  entry = refl;
-})
+gone_section b h t m x = grind arith
 
 -- the same by the definition alone
 gone_value : (b : List ℕ) (h : HeaderView) (t : Target) (m : Room) → gone_of b h t ≡ Ok m → (i : ℕ) × ((i + 1 ≡ h.coff_header.number_of_sections) × (gone_at h t (own_section b h t 0 i) ≡ m))
@@ -171,7 +123,7 @@ gone_value b h t m e =
     let l : LastSection = own_section b h t 0 i.0 in
     let r = first_ok (room_beside b h t 0 l) _ m i.1.1 in
     let one = passed (ends_table h l) _ _ m r.1.1 in
-    let last : (i.0 + 1 == h.coff_header.number_of_sections) ≡ true = first_of (i.0 + 1 == h.coff_header.number_of_sections) (nat_lt 0 i.0) one.0 in
+    let last : (i.0 + 1 == h.coff_header.number_of_sections) ≡ true = (both (i.0 + 1 == h.coff_header.number_of_sections) (nat_lt 0 i.0) one.0).0 in
     (i.0, (grind (arith, nat_tests, last), value_is (gone_tests b h t l) (gone_at h t l) m r.1.1))
 
 pub gone_fields : (b : List ℕ) (h : HeaderView) (t : Target) (m : Room) → gone_of b h t ≡ Ok m → (m.number_of_sections + 1 ≡ h.coff_header.number_of_sections) × (m.size_of_image ≡ (section_header b h m.number_of_sections).virtual_address)
@@ -187,10 +139,7 @@ gone_data b h t m e =
 -- ---- its bytes
 
 pub away_length : (b : List ℕ) (h : HeaderView) (t : Target) (m : Room) (f : List ℕ) → IsAway b h t m f → length f ≡ length b - m.more
-away_length b h t m f y =
-    let size : length (gone_file h m b) ≡ length b - m.more = length_gone h m b y.lies in
-    let l : FieldsLie h m m.end = y.lies.fields in
-    ap length (sym y.file) ∙ length_cleared h m.place.entry (gone_file h m b) (omega (arith, size, l.sum, l.entry, l.row, y.lies.end)) (omega (arith, size, l.entry, l.row, y.lies.end)) ∙ size
+away_length b h t m f y = grind (arith, length_gone, length_cleared)
 
 -- a byte of the file, in no field that changes, is one of what was cut
 away_byte : (b : List ℕ) (h : HeaderView) (t : Target) (m : Room) (f : List ℕ) (k : ℕ) → IsAway b h t m f → Past (h.dos_header.pe_pointer + 6) 2 k → Past (h.dos_header.pe_pointer + 12) 4 k → Past (h.dos_header.pe_pointer + 32) 4 k →
@@ -206,23 +155,23 @@ pub away_before : (b : List ℕ) (h : HeaderView) (t : Target) (m : Room) (f : L
 away_before b h t m f k y lt over =
     let p : ℕ = h.dos_header.pe_pointer in
     let s = six_of (nat_le (p + 6) k && nat_lt k (p + 6 + 2)) (nat_le (p + 12) k && nat_lt k (p + 12 + 4)) (nat_le (p + 32) k && nat_lt k (p + 32 + 4)) (nat_le (p + 80) k && nat_lt k (p + 80 + 4)) (nat_le (p + 88) k && nat_lt k (p + 88 + 4)) _ over in
-    let both = first_false (nat_le m.place.entry k && nat_lt k (m.place.entry + 8)) (nat_le m.place.row k && nat_lt k (m.place.row + 40)) s.1.1.1.1.1 in
+    let both = or_parts (nat_le m.place.entry k && nat_lt k (m.place.entry + 8)) (nat_le m.place.row k && nat_lt k (m.place.row + 40)) s.1.1.1.1.1 in
     away_byte b h t m f k y s.0 s.1.0 s.1.1.0 s.1.1.1.0 s.1.1.1.1.0 both.0 both.1 ∙ cut_before m.end m.more k b y.lies.end lt
 
 pub away_after : (b : List ℕ) (h : HeaderView) (t : Target) (m : Room) (f : List ℕ) (k : ℕ) → IsAway b h t m f → m.end ≤ k → get_or f k 0 ≡ get_or b (k + m.more) 0
+unfolding cut
 away_after b h t m f k y from =
     let p : ℕ = h.dos_header.pe_pointer in
     let l : FieldsLie h m m.end = y.lies.fields in
     let past : (q w : ℕ) → q + w ≤ m.end → Past q w k = λ q w to. range_past q w k (omega (arith, to, from)) in
     away_byte b h t m f k y (past (p + 6) 2 (omega (arith, l.sum, l.entry, l.row))) (past (p + 12) 4 (omega (arith, l.sum, l.entry, l.row))) (past (p + 32) 4 (omega (arith, l.sum, l.entry, l.row)))
     (past (p + 80) 4 (omega (arith, l.sum, l.entry, l.row))) (past (p + 88) 4 (omega (arith, l.sum, l.entry, l.row))) (past m.place.entry 8 (omega (arith, l.entry, l.row))) (past m.place.row 40 l.row)
-    ∙ cut_after m.end m.more k b y.lies.end from
+    ∙ grind (arith, length-take-le, get_or-append_right, get_or-drop, y.lies.end)
 
 -- a byte between the directories and the section stays, unless it is of the section header
 away_table : (b : List ℕ) (h : HeaderView) (t : Target) (m : Room) (f : List ℕ) (k : ℕ) → IsAway b h t m f → sections_offset h ≤ k → k < m.end → Past m.place.row 40 k → get_or f k 0 ≡ get_or b k 0
 away_table b h t m f k y from lt row =
     let p : ℕ = h.dos_header.pe_pointer in
-    let l : FieldsLie h m m.end = y.lies.fields in
     let g : GoneIs b h t m = gone_section b h t m y.gone in
     let i : EntryIn h t.entry (sections_offset h) = entry_before b h t y.found.of y.found.headers in
     away_byte b h t m f k y (range_past (p + 6) 2 k (omega (arith, from, i.sum, i.entry))) (range_past (p + 12) 4 k (omega (arith, from, i.sum, i.entry))) (range_past (p + 32) 4 k (omega (arith, from, i.sum, i.entry)))
@@ -230,38 +179,6 @@ away_table b h t m f k y from lt row =
     ∙ cut_before m.end m.more k b y.lies.end lt
 
 -- ---- its headers
-
-back_small : (t : Bool) (p n u : ℕ) → p < u → (if t then p else p - n) < u
-back_small true p n u h = h
-back_small false p n u h = omega (arith, h)
-
-moved_least : (t : Bool) (p n u : ℕ) → (if t then p else p + n) < u → p < u
-moved_least true p n u h = h
-moved_least false p n u h = omega (arith, h)
-
-small_gone : (b : List ℕ) (h : HeaderView) (t : Target) (m : Room) → AreBytes b → IsGone b h t m → SmallRoom m
-small_gone b h t m small x =
-    let l : LastSection = own_section b h t 0 x.index in
-    let p : ℕ = h.coff_header.pointer_to_symbol_table in
-    let symbols : p < 256 ^ 4 = moved_least (nat_lt p (raw_end l.section)) p l.more (256 ^ 4) x.fits.symbols in
-    subst SmallRoom x.value (record {
-      count = omega (arith, x.fits.count, x.last);
-      symbols = back_small (nat_lt p (raw_end l.section)) p l.section.size_of_raw_data (256 ^ 4) symbols;
-      initialized = omega (arith, x.fits.initialized);
-      image = (x.is.small small).virtual_address;
-      length_of = omega arith;
-      row = record {
-        virtual_size = omega arith;
-        virtual_address = omega arith;
-        pointer_to_raw_data = omega arith;
-        pointer_to_relocations = omega arith;
-        pointer_to_linenumbers = omega arith;
-        number_of_relocations = omega arith;
-        number_of_linenumbers = omega arith;
-        characteristics = omega arith;
-      };
-      raw = omega arith;
-    })
 
 -- where the entry is, by the optional header
 at_of : (h : HeaderView) (t : Target) (of : TargetIs h t) → t.entry ≡ h.dos_header.pe_pointer + 24 + directories_offset (of.optional.standard_fields.magic == 0x20B) + 8 * 2
@@ -291,7 +208,7 @@ away_headers mode b h t m f small parsed y =
     let same = same_by m g b q n
     (λ k lt a i d j f. fields_byte h m (cut m.end m.more b) k (fields_cut h m b y.lies) a i d j f (range_below m.place.row 40 k (omega (arith, lt, to))) ∙ cut_before m.end m.more k b y.lies.end (omega (arith, lt, to, l.row)))
     l.sum inside there (omega (arith, to, l.row, y.lies.end)) in
-    let read = fields_read h m (cut m.end m.more b) (fields_cut h m b y.lies) (small_gone b h t m small y.gone) in
+    let read = fields_read h m (cut m.end m.more b) (fields_cut h m b y.lies) (grind (arith, y.gone)) in
     let roomy : header_at g mode ≡ Ok h2 = headers_with_room g b mode h o m parsed of.some y.gone.fits.dos at same read in
     let some : h2.optional_header ≡ Some (optional_roomy m o) = ap (option_map (optional_roomy m)) of.some in
     let end_with : directories_end h2 ≡ n =
@@ -337,9 +254,6 @@ away_map b h t m f resolve alignment a y out =
     (maps_but_one resolve alignment (section_header b h) (section_header f (headers_roomy m h)) h.coff_header.number_of_sections i i a (omega (arith, x.count)) (omega arith)
     (λ k lt other. ap (offset_by alignment a) (sym (away_row b h t m f k y lt))) (offset_none alignment a s (out_of s a out)) (λ lt. absurd (omega (arith, lt))))
 
-some_is : {X : Type 0} (x y : X) → Some x ≡ Some y → x ≡ y
-some_is x y e = cc
-
 pub away_mapped : (o : ParseOptions) (b : List ℕ) (h : HeaderView) (t : Target) (m : Room) (f : List ℕ) (w : OptionalHeaderView) (a q : ℕ) → IsAway b h t m f → h.optional_header ≡ Some w → o.resolve_rva ≡ true →
     is_outside (section_header b h m.number_of_sections) a ≡ true → section_map o (section_headers b h) w.windows_fields.file_alignment a ≡ Some q → get_or f q 0 ≡ get_or b q 0
 away_mapped o b h t m f w a q y some resolves out e =
@@ -349,7 +263,7 @@ away_mapped o b h t m f w a q y some resolves out e =
     let i : ℕ = z.index in
     let index : m.number_of_sections ≡ i = omega (arith, x.count, z.last) in
     let alignment : ℕ = t.file_alignment in
-    let same : w.windows_fields.file_alignment ≡ alignment = ap (λ (v : OptionalHeaderView). v.windows_fields.file_alignment) (some_is w y.found.of.optional (sym some ∙ y.found.of.some)) ∙ ap (λ (v : Target). v.file_alignment) y.found.of.value in
+    let same : w.windows_fields.file_alignment ≡ alignment = ap (λ (v : OptionalHeaderView). v.windows_fields.file_alignment) (same_some w y.found.of.optional (sym some ∙ y.found.of.some)) ∙ ap (λ (v : Target). v.file_alignment) y.found.of.value in
     let n : ℕ = h.coff_header.number_of_sections in
     let g : ℕ → Option ℕ = λ k. offset_by alignment a (section_header b h k) in
     let resolved : offset_of true alignment (section_headers b h) a ≡ Some q = ap (λ (r : Bool). offset_of r alignment (section_headers b h) a) (sym resolves) ∙ ap (λ (u : ℕ). offset_of o.resolve_rva u (section_headers b h) a) (sym same) ∙ e in
@@ -393,8 +307,8 @@ emptied : (b : List ℕ) (h : HeaderView) (t : Target) (r : Result Place Rewrite
 emptied b h t (Ok p) k e in_data =
     let q : ℕ = p.section.pointer_to_raw_data in
     let n : ℕ = p.section.size_of_raw_data in
-    let from : nat_le q k ≡ true = first_of (nat_le q k) (nat_lt k (q + n)) in_data in
-    let to : nat_lt k (q + n) ≡ true = second_of (nat_le q k) (nat_lt k (q + n)) in_data in
+    let from : nat_le q k ≡ true = (both (nat_le q k) (nat_lt k (q + n)) in_data).0 in
+    let to : nat_lt k (q + n) ≡ true = (both (nat_le q k) (nat_lt k (q + n)) in_data).1 in
     zero_in b q n k (emptied_inside b h t p (is_emptied b h t p e)) (grind (arith, nat_tests, from)) (grind (arith, nat_tests, to))
 emptied b h t (Err s) k e in_data = absurd cc
 
@@ -406,50 +320,27 @@ emptied_from b h t (Ok p) k e lt =
     range_below p.section.pointer_to_raw_data p.section.size_of_raw_data k (omega (arith, lt, after))
 emptied_from b h t (Err s) k e lt = refl
 
-stayed_far : (b : List ℕ) (h : HeaderView) (t : Target) → Found b h t → EntryIn h t.entry (length (stayed_file (emptied_of b h t) b))
-stayed_far b h t x =
-    let i : EntryIn h t.entry (length b) = entry_found b h t x in
-    record { sum = i.sum; entry = omega (arith, i.entry, length_stayed b h t (emptied_of b h t) refl) }
-
 -- a byte that is in neither field
 stayed_byte : (b : List ℕ) (h : HeaderView) (t : Target) (f : List ℕ) (k : ℕ) → IsStayed b h t f → Past t.entry 8 k → Past (h.dos_header.pe_pointer + 88) 4 k → get_or f k 0 ≡ get_or (stayed_file (emptied_of b h t) b) k 0
-stayed_byte b h t f k y entry sum =
-    let i : EntryIn h t.entry (length (stayed_file (emptied_of b h t) b)) = stayed_far b h t y.found in
-    ap (λ (g : List ℕ). get_or g k 0) (sym y.file) ∙ cleared_byte h t.entry (stayed_file (emptied_of b h t) b) k (omega (arith, i.sum, i.entry)) i.entry entry sum
+stayed_byte b h t f k y entry sum = grind (arith, cleared_byte, entry_found, length_stayed)
 
 pub stayed_bytes : (b : List ℕ) (h : HeaderView) (t : Target) (f : List ℕ) (k : ℕ) → IsStayed b h t f → is_emptied_over h t (emptied_of b h t) k ≡ false → get_or f k 0 ≡ get_or b k 0
 stayed_bytes b h t f k y over =
     let p : ℕ = h.dos_header.pe_pointer in
-    let one = first_false (is_emptied_at (emptied_of b h t) k) _ over in
-    let two = first_false (nat_le t.entry k && nat_lt k (t.entry + 8)) (nat_le (p + 88) k && nat_lt k (p + 88 + 4)) one.1 in
+    let one = or_parts (is_emptied_at (emptied_of b h t) k) _ over in
+    let two = or_parts (nat_le t.entry k && nat_lt k (t.entry + 8)) (nat_le (p + 88) k && nat_lt k (p + 88 + 4)) one.1 in
     stayed_byte b h t f k y two.0 two.1 ∙ unemptied b h t (emptied_of b h t) k refl one.0
-
-after_headers : (b : List ℕ) (h : HeaderView) (t : Target) (k : ℕ) → is_emptied_at (emptied_of b h t) k ≡ true → headers_end h ≤ k
-after_headers b h t k in_data = ⊎_elim
-    (λ (lt : k < headers_end h).
-    let out : is_emptied_at (emptied_of b h t) k ≡ false = emptied_from b h t (emptied_of b h t) k refl lt in
-    absurd cc)
-    (λ (le : headers_end h ≤ k). le)
-    (cases_lt k (headers_end h))
 
 -- the data are zeros
 pub stayed_zeros : (b : List ℕ) (h : HeaderView) (t : Target) (f : List ℕ) (k : ℕ) → IsStayed b h t f → is_emptied_at (emptied_of b h t) k ≡ true → get_or f k 0 ≡ 0
 stayed_zeros b h t f k y in_data =
     let p : ℕ = h.dos_header.pe_pointer in
     let i : EntryIn h t.entry (sections_offset h) = entry_before b h t y.found.of y.found.headers in
-    let from : headers_end h ≤ k = after_headers b h t k in_data in
+    let from : headers_end h ≤ k = grind (arith, emptied_from, cases_lt) in
     stayed_byte b h t f k y (range_past t.entry 8 k (omega (arith, from, i.entry))) (range_past (p + 88) 4 k (omega (arith, from, i.sum, i.entry))) ∙ emptied b h t (emptied_of b h t) k refl in_data
 
 pub stayed_headers : (mode : ParseMode) (b : List ℕ) (h : HeaderView) (t : Target) (f : List ℕ) → header_at b mode ≡ Ok h → IsStayed b h t f → header_at f mode ≡ Ok (headers_changed 2 absent_directory (sum_of h f) h)
-stayed_headers mode b h t f parsed y =
-    let of : TargetIs h t = y.found.of in
-    let headers : HeadersLie b h t = y.found.headers in
-    let g : List ℕ = stayed_file (emptied_of b h t) b in
-    let size : length g ≡ length b = length_stayed b h t (emptied_of b h t) refl in
-    let end : directories_end h ≤ headers_end h = omega (arith, headers.directories) in
-    subst (λ (z : List ℕ). header_at z mode ≡ Ok (headers_changed 2 absent_directory (sum_of h z) h)) y.file
-    (headers_cleared mode g b h of.optional t.entry parsed of.some (at_of h t of) (omega (arith, at_of h t of, end_of h t of, of.many)) (omega (arith, end, headers.inside)) (omega (arith, end, headers.inside, size))
-    (λ k lt. unemptied b h t (emptied_of b h t) k refl (emptied_from b h t (emptied_of b h t) k refl (omega (arith, lt, end)))))
+stayed_headers mode b h t f parsed y = grind (arith, length_stayed, headers_cleared, at_of, end_of, unemptied, emptied_from)
 
 stayed_row : (b : List ℕ) (h : HeaderView) (t : Target) (f : List ℕ) (k : ℕ) → IsStayed b h t f → k < h.coff_header.number_of_sections → section_header f h k ≡ section_header b h k
 stayed_row b h t f k y lt =

@@ -1,73 +1,22 @@
 -- The bytes of a file with room for resources: what stays, what moves, and what is written.
-use Rattle.std.proofs.Common.{◌≡◌, ℕ, ◌+◌, ◌-◌, ◌^◌, ◌<◌, ◌≤◌, ◌&&◌, false, List, [], ◌∷◌, ◌++◌, length, get_or, take, drop, replicate, refl, ap, sym, ◌∙◌, subst, arith, length-append}
-use Rattle.std.specs.Prelude.{nat_le, nat_lt}
-use Rattle.std.proofs.lemmas.Bool.Decides.{nat_tests}
-use Rattle.std.proofs.lemmas.List.{get_or_append_left, get_or-append_right, get_or-drop, get_or-take, length-replicate, length-take-le}
-use Rattle.pe_core.specs.Bytes.{bytes_of, le, splice}
-use Rattle.pe_core.specs.Header.{HeaderView}
-use Rattle.pe_core.specs.Records.{section_table}
-use Rattle.pe_core.specs.Spelling.{spell_section}
-use Rattle.pe_core.specs.declared.section_table.SectionTable.{SectionTable}
-use Rattle.pe_core.proofs.NumberBytes.{le-same}
-use Rattle.pe_core.proofs.Splices.{length-bytes_of, length-splice}
-use Rattle.pe_edit.proofs.Stands.{Stands, left, number, part, right}
-use Rattle.pe_sign.proofs.Digests.{range_below, range_past}
-use Rattle.pe_rewrite.specs.Edited.{FieldsLie, RoomLies, changed, room_changes, roomy_file, with_zeros}
-use Rattle.pe_rewrite.specs.declared.room.Room.{Room}
+use Rattle.std.proofs.Common.{◌≡◌, ℕ, ◌+◌, ◌^◌, ◌<◌, ◌≤◌, List, [], ◌∷◌, ◌++◌, length, get_or, take, drop, refl, sym, ◌∙◌, subst, arith, length-append}
+use Rattle.pe_rewrite.proofs.Cited.{get_or_append_left, get_or-append_right, get_or-drop, get_or-take, length-replicate}
+use Rattle.pe_rewrite.proofs.Cited.{length-take-le, bytes_of, le, splice, HeaderView, section_table, spell_section, SectionTable}
+use Rattle.pe_rewrite.proofs.Cited.{le-same, length-bytes_of, length-splice, Stands, left, number, part, right, range_below}
+use Rattle.pe_rewrite.proofs.Cited.{range_past, FieldsLie, RoomLies, changed, room_changes, roomy_file, with_zeros, Room}
 use Rattle.pe_rewrite.proofs.Roomy.{SmallRow}
 use Rattle.pe_rewrite.proofs.RoomWrites.{fields_fit, fields_of, length_apart, length_row, room_fit}
-use Rattle.pe_rewrite.proofs.Stays.{Misses, Past, byte_changed, number_there}
+use Rattle.pe_rewrite.proofs.Stays.{Misses, Past, byte_changed, number_there, both_halves}
 use Rattle.pe_rewrite.proofs.Writes.{Fit}
-
--- ---- zeros put in
-
-zeros_before : (e d k : ℕ) (b : List ℕ) → e ≤ length b → k < e → get_or (with_zeros e d b) k 0 ≡ get_or b k 0
-unfolding with_zeros
-zeros_before e d k b h lt =
-    let size : length (take e b) ≡ e = length-take-le e b h in
-    get_or_append_left (take e b) (replicate d 0 ++ drop e b) 0 k (omega (arith, size, lt)) ∙ get_or-take e b k 0 lt
-
-zeros_after : (e d k : ℕ) (b : List ℕ) → e ≤ length b → e ≤ k → get_or (with_zeros e d b) (k + d) 0 ≡ get_or b k 0
-unfolding with_zeros
-zeros_after e d k b h from =
-    let size : length (take e b) ≡ e = length-take-le e b h in
-    get_or-append_right (take e b) (replicate d 0 ++ drop e b) e (k + d) 0 size (omega (arith, from))
-    ∙ get_or-append_right (replicate d 0) (drop e b) d (k + d - e) 0 (length-replicate {A = ℕ} d 0) (omega (arith, from))
-    ∙ get_or-drop e b (k + d - e - d) 0
-    ∙ ap (λ (j : ℕ). get_or b j 0) (omega (arith, from))
 
 -- ---- the headers
 
 roomy_fit : (h : HeaderView) (m : Room) (b : List ℕ) → RoomLies h m (length b) → Fit (length (with_zeros m.end m.more b)) (room_changes h.dos_header.pe_pointer m)
 roomy_fit h m b l = subst (λ (n : ℕ). Fit n (room_changes h.dos_header.pe_pointer m)) (sym (length_apart m.end m.more b l.end)) (room_fit h m (length b) l)
 
-entry_halves : (p k : ℕ) → Past p 8 k → Past p 4 k × Past (p + 4) 4 k
-entry_halves p k h = (grind (arith, nat_tests, h), grind (arith, nat_tests, h))
-
 room_misses : (h : HeaderView) (m : Room) (k : ℕ) → length m.place.section.name ≡ 8 → Past (h.dos_header.pe_pointer + 6) 2 k → Past (h.dos_header.pe_pointer + 12) 4 k → Past (h.dos_header.pe_pointer + 32) 4 k → Past (h.dos_header.pe_pointer + 80) 4 k →
     Past m.place.entry 8 k → Past m.place.row 40 k → Misses k (room_changes h.dos_header.pe_pointer m)
-room_misses h m k name count symbols initialized image entry row =
-    let q : ℕ = h.dos_header.pe_pointer in
-    let by : (p w : ℕ) (s : List ℕ) → length s ≡ w → Past p w k → (nat_le p k && nat_lt k (p + length s)) ≡ false = λ p w s e past. ap (λ (z : ℕ). nat_le p k && nat_lt k (p + z)) e ∙ past in
-    let halves = entry_halves m.place.entry k entry in (
-      by (q + 6) 2 (bytes_of 2 m.number_of_sections) (length-bytes_of 2 m.number_of_sections) count,
-      (
-        by (q + 12) 4 (bytes_of 4 m.pointer_to_symbol_table) (length-bytes_of 4 m.pointer_to_symbol_table) symbols,
-        (
-          by (q + 32) 4 (bytes_of 4 m.size_of_initialized_data) (length-bytes_of 4 m.size_of_initialized_data) initialized,
-          (
-            by (q + 80) 4 (bytes_of 4 m.size_of_image) (length-bytes_of 4 m.size_of_image) image,
-            (
-              by m.place.entry 4 (bytes_of 4 m.place.section.virtual_address) (length-bytes_of 4 m.place.section.virtual_address) halves.0,
-              (
-                by (m.place.entry + 4) 4 (bytes_of 4 m.place.length) (length-bytes_of 4 m.place.length) halves.1,
-                (by m.place.row 40 (spell_section m.place.section) (length_row m.place.section name) row, tt),
-              ),
-            ),
-          ),
-        ),
-      ),
-    )
+room_misses h m k name count symbols initialized image entry row = grind (arith, both_halves, length-bytes_of, length_row)
 
 -- a byte in no field that changes stays
 pub fields_byte : (h : HeaderView) (m : Room) (z : List ℕ) (k : ℕ) → FieldsLie h m (length z) → Past (h.dos_header.pe_pointer + 6) 2 k → Past (h.dos_header.pe_pointer + 12) 4 k → Past (h.dos_header.pe_pointer + 32) 4 k →
@@ -78,21 +27,21 @@ fields_byte h m z k l count symbols initialized image entry row =
 -- the same of a byte before the end of the data
 pub roomy_byte : (h : HeaderView) (m : Room) (b : List ℕ) (k : ℕ) → RoomLies h m (length b) → k < m.end → Past (h.dos_header.pe_pointer + 6) 2 k → Past (h.dos_header.pe_pointer + 12) 4 k → Past (h.dos_header.pe_pointer + 32) 4 k →
     Past (h.dos_header.pe_pointer + 80) 4 k → Past m.place.entry 8 k → Past m.place.row 40 k → get_or (roomy_file h m b) k 0 ≡ get_or b k 0
-unfolding roomy_file
+unfolding roomy_file with_zeros
 roomy_byte h m b k l lt count symbols initialized image entry row =
     byte_changed (room_changes h.dos_header.pe_pointer m) (with_zeros m.end m.more b) k (roomy_fit h m b l) (room_misses h m k l.name count symbols initialized image entry row)
-    ∙ zeros_before m.end m.more k b l.end lt
+    ∙ grind (arith, length-take-le, get_or_append_left, get_or-take, l.end)
 
 -- a byte after it moves
 pub roomy_byte_after : (h : HeaderView) (m : Room) (b : List ℕ) (k : ℕ) → RoomLies h m (length b) → m.end ≤ k → get_or (roomy_file h m b) (k + m.more) 0 ≡ get_or b k 0
-unfolding roomy_file
+unfolding roomy_file with_zeros
 roomy_byte_after h m b k l from =
     let past : (p w : ℕ) → p + w ≤ m.end → Past p w (k + m.more) = λ p w to. range_past p w (k + m.more) (omega (arith, to, from)) in
     let q : ℕ = h.dos_header.pe_pointer in
     byte_changed (room_changes q m) (with_zeros m.end m.more b) (k + m.more) (roomy_fit h m b l)
     (room_misses h m (k + m.more) l.name (past (q + 6) 2 (omega (arith, l.sum, l.entry, l.row))) (past (q + 12) 4 (omega (arith, l.sum, l.entry, l.row))) (past (q + 32) 4 (omega (arith, l.sum, l.entry, l.row)))
     (past (q + 80) 4 (omega (arith, l.sum, l.entry, l.row))) (past m.place.entry 8 (omega (arith, l.entry, l.row))) (past m.place.row 40 l.row))
-    ∙ zeros_after m.end m.more k b l.end from
+    ∙ grind (arith, length-take-le, get_or-append_right, length-replicate, get_or-drop, l.end)
 
 -- ---- numbers that are written
 
@@ -154,7 +103,7 @@ section_read f p s a e small size =
       number f (p + 36) 4 s.characteristics small.characteristics (right f p 36 x36 (bytes_of 4 s.characteristics) l36 a),
     ) refl
 
-here : (b : List ℕ) (p : ℕ) (s : List ℕ) → p ≤ length b → Stands (splice b p s) p s
+pub here : (b : List ℕ) (p : ℕ) (s : List ℕ) → p ≤ length b → Stands (splice b p s) p s
 unfolding splice
 here b p s h = record { front = take p b; back = drop (p + length s) b; is = refl; size = length-take-le p b h }
 

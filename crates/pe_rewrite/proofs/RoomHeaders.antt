@@ -1,31 +1,15 @@
 -- The headers of a file with room for resources.
-use Rattle.std.proofs.Common.{◌≡◌, ℕ, ◌+◌, ◌*◌, ◌<◌, ◌≤◌, ◌==◌, ◌||◌, Bool, true, false, List, [], length, get_or, set, Ok, Some, None, refl, ap, sym, ◌∙◌, subst, arith}
-use Rattle.std.specs.Prelude.{slice_range, if◌then◌else◌}
-use Rattle.pe_core.specs.Bytes.{AreBytes, le, holds}
-use Rattle.pe_core.specs.Directories.{absent_directory, kept}
-use Rattle.pe_core.specs.Header.{HeaderView, OptionalHeaderView, directories_offset, is_pe32_plus, optional_header, optional_header_tests, header, header_tests, header_at}
-use Rattle.pe_core.specs.Records.{dos_header, coff_header, standard_fields_32, standard_fields_64, windows_fields_32, windows_fields_64, data_directory}
-use Rattle.pe_core.specs.Refusals.{outcome}
-use Rattle.pe_core.specs.Rows.{rows}
-use Rattle.pe_core.specs.declared.options.ParseMode.{ParseMode}
-use Rattle.pe_core.proofs.Comparisons.{le_is}
-use Rattle.pe_core.proofs.EntryItems.{length-each}
-use Rattle.pe_core.proofs.NumberBytes.{le-same}
-use Rattle.pe_sign.specs.WrittenHeaders.{directories_end, directories_end_after}
-use Rattle.pe_sign.proofs.Digests.{range_below, range_past}
-use Rattle.pe_sign.proofs.HeadersStay.{count_is, end_is, magic_is, minus, one_set, Parsed, parsed, plus, same_range, some_optional, wide}
+use Rattle.std.proofs.Common.{◌≡◌, ℕ, ◌+◌, ◌*◌, ◌<◌, ◌≤◌, ◌==◌, ◌||◌, Bool, true, false, List, [], length, get_or, set, Ok, Some, None, refl, ap, sym, ◌∙◌, arith}
+use Rattle.pe_rewrite.proofs.Cited.{slice_range, if◌then◌else◌, AreBytes, le, absent_directory, kept, HeaderView}
+use Rattle.pe_rewrite.proofs.Cited.{OptionalHeaderView, directories_offset, is_pe32_plus, optional_header, optional_header_tests}
+use Rattle.pe_rewrite.proofs.Cited.{header, header_at, dos_header, coff_header, standard_fields_32, standard_fields_64}
+use Rattle.pe_rewrite.proofs.Cited.{windows_fields_32, windows_fields_64, data_directory, outcome, rows, ParseMode, le_is, le-same}
+use Rattle.pe_rewrite.proofs.Cited.{directories_end, directories_end_after, range_below, range_past, end_is, magic_is, minus}
+use Rattle.pe_rewrite.proofs.Cited.{one_set, Parsed, parsed, plus, same_range, some_optional, wide, RoomLies, roomy_file}
+use Rattle.pe_rewrite.proofs.Cited.{coff_roomy, entry_of, headers_roomy, optional_roomy, Room, Leaf, length_of_section}
+use Rattle.pe_core.specs.Header.{header_tests}
 use Rattle.pe_sign.proofs.Tests.{passed}
-use Rattle.pe_rewrite.specs.Edited.{RoomLies, roomy_file}
-use Rattle.pe_rewrite.specs.WrittenImages.{coff_roomy, entry_of, headers_roomy, optional_roomy}
-use Rattle.pe_rewrite.specs.declared.room.Room.{Room}
-use Rattle.pe_core.specs.Sections.{sections_offset}
-use Rattle.pe_edit.specs.Written.{Leaf}
-use Rattle.pe_edit.proofs.SectionRead.{length_of_section}
-use Rattle.pe_rewrite.specs.Rooms.{room_at}
-use Rattle.pe_rewrite.specs.declared.place.Target.{Target}
-use Rattle.pe_rewrite.specs.declared.room.LastSection.{LastSection}
-use Rattle.pe_rewrite.proofs.Placed.{Made}
-use Rattle.pe_rewrite.proofs.Roomy.{HasRoom, IsLast, RoomFits, SmallRow, room_lies}
+use Rattle.pe_rewrite.proofs.Roomy.{HasRoom, room_lies}
 use Rattle.pe_rewrite.proofs.RoomBytes.{RoomRead, SmallRoom, room_read, roomy_byte}
 use Rattle.pe_rewrite.proofs.RoomWrites.{roomy_length}
 use Rattle.pe_rewrite.proofs.Stays.{Past}
@@ -71,18 +55,7 @@ dos_same f b q e n s h =
 
 coff_same : (f b : List ℕ) (q e n : ℕ) (m : Room) → Same f b q e n → RoomRead f q m → coff_header f (q + 4) ≡ coff_roomy m (coff_header b (q + 4))
 unfolding coff_header
-coff_same f b q e n m s r =
-    let count : le f (q + 4 + 2) 2 ≡ m.number_of_sections = ap (λ (p : ℕ). le f p 2) (omega arith) ∙ r.count in
-    let symbols : le f (q + 4 + 8) 4 ≡ m.pointer_to_symbol_table = ap (λ (p : ℕ). le f p 4) (omega arith) ∙ r.symbols in
-    rw (
-      in_stub f b q e n s (q + 4) 2 (omega arith),
-      count,
-      between f b (q + 8) (q + 12) (q + 4 + 4) 4 s.time (omega arith) (omega arith),
-      symbols,
-      in_count f b q e n s (q + 4 + 12) 4 (omega arith) (omega arith),
-      in_count f b q e n s (q + 4 + 16) 2 (omega arith) (omega arith),
-      in_count f b q e n s (q + 4 + 18) 2 (omega arith) (omega arith),
-    ) refl
+coff_same f b q e n m s r = grind (arith, in_stub, between, in_count)
 
 standard_same_64 : (f b : List ℕ) (q e n : ℕ) (m : Room) → Same f b q e n → RoomRead f q m → (p : ℕ) → p ≡ q + 24 → standard_fields_64 f p ≡ record (standard_fields_64 b p) { size_of_initialized_data = m.size_of_initialized_data }
 unfolding standard_fields_64
@@ -169,15 +142,12 @@ row_after : (f b : List ℕ) (q e n : ℕ) → Same f b q e n → (p : ℕ) → 
 unfolding data_directory
 row_after f b q e n s p from to = rw (between f b (e + 8) n p 4 s.last from (omega (arith, to)), between f b (e + 8) n (p + 4) 4 s.last (omega (arith, from)) (omega (arith, to))) refl
 
-entry_read : (f : List ℕ) (q : ℕ) (m : Room) → RoomRead f q m → data_directory f m.place.entry ≡ entry_of m.place
-unfolding data_directory
-entry_read f q m r = rw (r.address, r.size) refl
-
 rows_same : (f b : List ℕ) (q n : ℕ) (m : Room) → Same f b q m.place.entry n → RoomRead f q m → (p c : ℕ) → q + 84 ≤ p → m.place.entry ≡ p + 8 * 2 → n ≡ p + 8 * c →
     rows (data_directory f) 8 p c ≡ set (rows (data_directory b) 8 p c) 2 (entry_of m.place)
+unfolding data_directory
 rows_same f b q n m s r p c from at to =
     one_set (λ k. data_directory f (p + 8 * k)) (λ k. data_directory b (p + 8 * k)) c 2 (entry_of m.place) absent_directory (omega (arith, s.entry, at, to))
-    (ap (λ (k : ℕ). data_directory f k) (sym at) ∙ entry_read f q m r)
+    (ap (λ (k : ℕ). data_directory f k) (sym at) ∙ (rw (r.address, r.size) refl))
     (λ k lt. row_before f b q m.place.entry n s (p + 8 * k) (omega (arith, from)) (omega (arith, at, lt)))
     (λ k gt lt. row_after f b q m.place.entry n s (p + 8 * k) (omega (arith, at, gt)) (omega (arith, to, lt)))
 
@@ -201,27 +171,17 @@ optional_32 f b q n m s r p at at_e w to =
     let table = rows_same f b q n m s r (p + 96) (kept (windows_fields_32 b (p + 28)).number_of_rva_and_sizes) (omega (arith, at)) at_e to in
     rw (magic, w, standard_same_32 f b q m.place.entry n m s r p at, fields, table) refl
 
-by_width : (w : Bool) (f b : List ℕ) (q n : ℕ) (m : Room) → Same f b q m.place.entry n → RoomRead f q m → (p : ℕ) → p ≡ q + 24 → is_pe32_plus b p ≡ w → m.place.entry ≡ p + directories_offset (is_pe32_plus b p) + 8 * 2 →
-    n ≡ p + directories_offset (is_pe32_plus b p) + 8 * kept (optional_header b p).windows_fields.number_of_rva_and_sizes → optional_header f p ≡ optional_roomy m (optional_header b p)
-by_width true f b q n m s r p at w at_e to = optional_64 f b q n m s r p at (at_e ∙ (rw w (omega arith))) w (to ∙ plus b p w)
-by_width false f b q n m s r p at w at_e to = optional_32 f b q n m s r p at (at_e ∙ (rw w (omega arith))) w (to ∙ minus b p w)
-
 -- ---- the tests
 
 optional_accepted : (f b : List ℕ) (p : ℕ) (m : Room) → le f p 2 ≡ le b p 2 → optional_header f p ≡ optional_roomy m (optional_header b p) →
     (le b p 2 == 0x10B || is_pe32_plus b p) ≡ true → p + directories_offset (is_pe32_plus b p) + 8 * kept (optional_header b p).windows_fields.number_of_rva_and_sizes ≤ length f →
     (y : HeaderView) → outcome (optional_header_tests f p) y ≡ Ok y
 unfolding optional_header_tests
-optional_accepted f b p m two same magic room y =
-    rw (two, same, magic, le_is (p + 2) (length f) (omega (arith, wide (is_pe32_plus b p), room)), le_is (p + directories_offset (is_pe32_plus b p)) (length f) (omega (arith, room)), le_is (p + directories_offset (is_pe32_plus b p) + 8 * kept (optional_header b p).windows_fields.number_of_rva_and_sizes) (length f) room) refl
+optional_accepted f b p m two same magic room y = grind (arith, le_is, wide)
 
 magic_tested : (t : Bool) (b : List ℕ) (q : ℕ) (x h : HeaderView) → t ≡ false → outcome (if t then [] else optional_header_tests b q) x ≡ Ok h → (le b q 2 == 0x10B || is_pe32_plus b q) ≡ true
 unfolding optional_header_tests
-magic_tested true b q x h is e = absurd cc
-magic_tested false b q x h is e =
-    let one = passed (holds b q 2) _ _ h e in
-    let two = passed (le b q 2 == 0x10B || is_pe32_plus b q) _ _ h one.1 in
-    two.0
+magic_tested t b q x h is e = grind (arith, passed)
 
 -- ---- the headers
 
@@ -239,7 +199,7 @@ header_is f b mode h m a some far at_e s r =
     let n : ℕ = directories_end_after p (if t then None else Some (optional_header b q)) in
     let to = end_is t b p some in
     let magic = magic_tested t b q (header b) h some a.optional in
-    let optional : optional_header f q ≡ optional_roomy m (optional_header b q) = by_width (is_pe32_plus b q) f b p n m s r q refl refl at_e to in
+    let optional : optional_header f q ≡ optional_roomy m (optional_header b q) = grind (arith, optional_64, plus, optional_32, minus) in
     let accepted = optional_accepted f b q m (in_count f b p e n s q 2 (omega arith) (omega arith)) optional magic (omega (arith, to, s.inside)) in
     let stub : slice_range f 64 p ≡ slice_range b 64 p = same_range f b 64 p (omega (arith, s.sum, s.entry, s.inside)) (omega (arith, s.sum, s.entry, s.inside_before)) (λ k from lt. s.stub k (omega (arith, lt))) in
     rw (
@@ -261,40 +221,19 @@ header_with : (f b : List ℕ) (mode : ParseMode) (h : HeaderView) (o : Optional
     m.place.entry ≡ (header b).dos_header.pe_pointer + 24 + directories_offset (o.standard_fields.magic == 0x20B) + 8 * 2 →
     Same f b (header b).dos_header.pe_pointer m.place.entry (directories_end (header b)) → RoomRead f (header b).dos_header.pe_pointer m → header_at f mode ≡ Ok (headers_roomy m (header b))
 unfolding header
-header_with f b mode h o m a e far at_e s r =
-    let p : ℕ = (dos_header b 0).pe_pointer in
-    let t : Bool = (coff_header b (p + 4)).size_of_optional_header == 0 in
-    let both : (t ≡ false) × (optional_header b (p + 24) ≡ o) = some_optional t (optional_header b (p + 24)) o e in
-    let magic : o.standard_fields.magic ≡ le b (p + 24) 2 = ap (λ (x : OptionalHeaderView). x.standard_fields.magic) (sym both.1) ∙ magic_is b (p + 24) in
-    header_is f b mode h m a both.0 (omega (arith, far)) (at_e ∙ ap (λ (v : ℕ). p + 24 + directories_offset (v == 0x20B) + 8 * 2) magic) s r
+header_with f b mode h o m a e far at_e s r = grind (arith, some_optional, magic_is, header_is)
 
 pub headers_with_room : (f b : List ℕ) (mode : ParseMode) (h : HeaderView) (o : OptionalHeaderView) (m : Room) → header_at b mode ≡ Ok h → h.optional_header ≡ Some o → 64 ≤ h.dos_header.pe_pointer →
     m.place.entry ≡ h.dos_header.pe_pointer + 24 + directories_offset (o.standard_fields.magic == 0x20B) + 8 * 2 →
     Same f b h.dos_header.pe_pointer m.place.entry (directories_end h) → RoomRead f h.dos_header.pe_pointer m → header_at f mode ≡ Ok (headers_roomy m h)
-headers_with_room f b mode h o m e some far at_e s r =
-    let a : Parsed b mode h = parsed b mode h e in
-    subst (λ (k : HeaderView). k.optional_header ≡ Some o → 64 ≤ k.dos_header.pe_pointer → m.place.entry ≡ k.dos_header.pe_pointer + 24 + directories_offset (o.standard_fields.magic == 0x20B) + 8 * 2 →
-    Same f b k.dos_header.pe_pointer m.place.entry (directories_end k) → RoomRead f k.dos_header.pe_pointer m → header_at f mode ≡ Ok (headers_roomy m k)) a.value
-    (λ u v w x y. header_with f b mode h o m a u v w x y) some far at_e s r
+headers_with_room f b mode h o m e some far at_e s r = grind (arith, parsed, header_with)
 
 -- ---- the file that is written
 
 -- before n a byte of f that is in no field is that of b
 pub same_by : (m : Room) (f b : List ℕ) (q n : ℕ) → ((k : ℕ) → k < n → Past (q + 6) 2 k → Past (q + 12) 4 k → Past (q + 32) 4 k → Past (q + 80) 4 k → Past m.place.entry 8 k → get_or f k 0 ≡ get_or b k 0) → q + 92 ≤ m.place.entry → m.place.entry + 8 ≤ n →
     n ≤ length f → n ≤ length b → Same f b q m.place.entry n
-same_by m f b q n stays sum from inside inside_before =
-    record {
-      sum = sum;
-      entry = from;
-      inside = inside;
-      inside_before = inside_before;
-      stub = λ k lt. stays k (omega (arith, lt, sum, from)) (range_below (q + 6) 2 k lt) (range_below (q + 12) 4 k (omega (arith, lt))) (range_below (q + 32) 4 k (omega (arith, lt))) (range_below (q + 80) 4 k (omega (arith, lt))) (range_below m.place.entry 8 k (omega (arith, lt, sum)));
-      time = λ k ge lt. stays k (omega (arith, lt, sum, from)) (range_past (q + 6) 2 k (omega (arith, ge))) (range_below (q + 12) 4 k lt) (range_below (q + 32) 4 k (omega (arith, lt))) (range_below (q + 80) 4 k (omega (arith, lt))) (range_below m.place.entry 8 k (omega (arith, lt, sum)));
-      count = λ k ge lt. stays k (omega (arith, lt, sum, from)) (range_past (q + 6) 2 k (omega (arith, ge))) (range_past (q + 12) 4 k (omega (arith, ge))) (range_below (q + 32) 4 k lt) (range_below (q + 80) 4 k (omega (arith, lt))) (range_below m.place.entry 8 k (omega (arith, lt, sum)));
-      middle = λ k ge lt. stays k (omega (arith, lt, sum, from)) (range_past (q + 6) 2 k (omega (arith, ge))) (range_past (q + 12) 4 k (omega (arith, ge))) (range_past (q + 32) 4 k (omega (arith, ge))) (range_below (q + 80) 4 k lt) (range_below m.place.entry 8 k (omega (arith, lt, sum)));
-      after = λ k ge lt. stays k (omega (arith, lt, from)) (range_past (q + 6) 2 k (omega (arith, ge))) (range_past (q + 12) 4 k (omega (arith, ge))) (range_past (q + 32) 4 k (omega (arith, ge))) (range_past (q + 80) 4 k (omega (arith, ge))) (range_below m.place.entry 8 k lt);
-      last = λ k ge lt. stays k lt (range_past (q + 6) 2 k (omega (arith, ge, sum))) (range_past (q + 12) 4 k (omega (arith, ge, sum))) (range_past (q + 32) 4 k (omega (arith, ge, sum))) (range_past (q + 80) 4 k (omega (arith, ge, sum))) (range_past m.place.entry 8 k ge);
-    }
+same_by m f b q n stays sum from inside inside_before = grind (arith, range_below, range_past)
 
 -- b has the bytes of c before the section header
 same_of : (h : HeaderView) (m : Room) (c b : List ℕ) (n : ℕ) → ((k : ℕ) → k < m.place.row → get_or c k 0 ≡ get_or b k 0) → length c ≡ length b → RoomLies h m (length c) → m.place.entry + 8 ≤ n → n ≤ m.place.row → Same (roomy_file h m c) b h.dos_header.pe_pointer m.place.entry n
@@ -303,30 +242,8 @@ same_of h m c b n head size l from to =
     (λ k lt a i d e f. roomy_byte h m c k l (omega (arith, lt, to, l.row)) a i d e f (range_below m.place.row 40 k (omega (arith, lt, to))) ∙ head k (omega (arith, lt, to)))
     l.sum from (omega (arith, roomy_length h m c l, to, l.row, l.end)) (omega (arith, to, l.row, l.end, size))
 
-small_at : (b : List ℕ) (h : HeaderView) (xs : List Leaf) (t : Target) (n : ℕ) (l : LastSection) → AreBytes b → Made l.section.virtual_address n xs → IsLast b h t.file_alignment n l → RoomFits b h t n l → SmallRoom (room_at h t n l)
-small_at b h xs t n l small leaves is fits =
-    let row : SmallRow l.section = is.small small in
-    record {
-      count = fits.count;
-      symbols = fits.symbols;
-      initialized = fits.initialized;
-      image = fits.image;
-      length_of = omega (arith, leaves.accepted.end, leaves.size, length_of_section l.section.virtual_address xs);
-      row = record {
-        virtual_size = row.virtual_size;
-        virtual_address = row.virtual_address;
-        pointer_to_raw_data = row.pointer_to_raw_data;
-        pointer_to_relocations = row.pointer_to_relocations;
-        pointer_to_linenumbers = row.pointer_to_linenumbers;
-        number_of_relocations = row.number_of_relocations;
-        number_of_linenumbers = row.number_of_linenumbers;
-        characteristics = row.characteristics;
-      };
-      raw = omega (arith, fits.end);
-    }
-
 pub small_room : (b : List ℕ) (h : HeaderView) (xs : List Leaf) (m : Room) → AreBytes b → HasRoom b h xs m → SmallRoom m
-small_room b h xs m small x = subst SmallRoom x.value (small_at b h xs x.target x.length_of x.section small x.leaves x.is x.fits)
+small_room b h xs m small x = grind (arith, length_of_section)
 
 pub read_of : (b : List ℕ) (h : HeaderView) (xs : List Leaf) (m : Room) → AreBytes b → HasRoom b h xs m → RoomRead (roomy_file h m b) h.dos_header.pe_pointer m
 read_of b h xs m small x =
@@ -339,13 +256,7 @@ pub record EntryLies (h : HeaderView) (o : OptionalHeaderView) (m : Room) : Type
   pub end : directories_end h ≤ m.place.row
 
 pub entry_lies : (b : List ℕ) (h : HeaderView) (xs : List Leaf) (m : Room) (x : HasRoom b h xs m) → EntryLies h x.of.optional m
-entry_lies b h xs m x =
-    let o : OptionalHeaderView = x.of.optional in
-    let q : ℕ = h.dos_header.pe_pointer in
-    let at : m.place.entry ≡ q + 24 + directories_offset (o.standard_fields.magic == 0x20B) + 16 = ap (λ (r : Room). r.place.entry) (sym x.value) ∙ ap (λ (t : Target). t.entry) (sym x.of.value) in
-    let end : directories_end h ≡ q + 24 + directories_offset (o.standard_fields.magic == 0x20B) + 8 * length o.data_directories = ap (directories_end_after q) x.of.some in
-    let row : m.place.row ≡ sections_offset h + 40 * x.section.index = ap (λ (r : Room). r.place.row) (sym x.value) in
-    record { at = omega (arith, at); inside = omega (arith, at, end, x.of.many); end = omega (arith, row, x.headers.directories) }
+entry_lies b h xs m x = grind arith
 
 -- the headers of an image b are parsed in a file c with the same headers, when it has room
 pub roomy_headers : (mode : ParseMode) (c b : List ℕ) (h : HeaderView) (xs : List Leaf) (m : Room) → AreBytes c → ((k : ℕ) → k < m.place.row → get_or c k 0 ≡ get_or b k 0) → length c ≡ length b → header_at b mode ≡ Ok h → HasRoom c h xs m →

@@ -1,31 +1,14 @@
 -- The laws, of a file that an edit writes with its resources at the end.
-use Rattle.std.proofs.Common.{◌≡◌, ℕ, suc, ◌+◌, ◌-◌, ◌*◌, ◌%◌, ◌^◌, ◌<◌, ◌≤◌, ◌≢◌, ◌&&◌, ◌||◌, ◌⊎◌, inl, inr, Bool, true, false, List, ◌∷◌, ◌++◌, length, get_or, take, drop, map, max, Option, Some, None, Result, Ok, Err, refl, ap, sym, ◌∙◌, ⊎_elim, arith, length-append}
-use Rattle.std.specs.Prelude.{nat_le, nat_lt, if◌then◌else◌}
-use Rattle.std.specs.Int.{is_power_of_two}
-use Rattle.std.specs.Option.{option_map}
-use Rattle.std.proofs.lemmas.Bool.{cases_lt}
-use Rattle.std.proofs.lemmas.List.{ext_get_or, get_or_append_left, get_or-append_right, get_or-drop, get_or-take, length-drop, length-take-le}
-use Rattle.pe_core.specs.Bytes.{AreBytes, bytes_of, splice}
-use Rattle.pe_core.specs.Header.{HeaderView, OptionalHeaderView, header_at}
-use Rattle.pe_core.specs.Refusals.{◌>>=◌}
-use Rattle.pe_core.specs.Rows.{each}
-use Rattle.pe_core.specs.SectionMap.{offset_of, section_map}
-use Rattle.pe_core.specs.Sections.{sections_offset}
-use Rattle.pe_core.specs.declared.options.ParseMode.{ParseMode}
-use Rattle.pe_core.specs.declared.options.ParseOptions.{ParseOptions}
-use Rattle.pe_core.specs.declared.section_table.SectionTable.{SectionTable}
-use Rattle.pe_core.proofs.EntryItems.{get_or-each, length-each}
-use Rattle.pe_resource.specs.Contents.{file_bytes}
-use Rattle.pe_edit.specs.Written.{Each, Leaf, Numbers, section}
-use Rattle.pe_sign.proofs.Digests.{range_past}
-use Rattle.pe_rewrite.specs.Edited.{RoomLies, at_end, edited_file, edited_of, grown_size, in_place, is_moved_over, is_pointer, is_written, moved_file, or_at_end, roomy_file, sum_by, sum_of, wants_room, with_pointers, with_resources, with_sum}
-use Rattle.pe_rewrite.specs.Places.{is_outside, place_of, section_header, section_headers}
-use Rattle.pe_rewrite.specs.RewriteRefusals.{RewriteRefusal}
-use Rattle.pe_rewrite.specs.Rooms.{room_of}
-use Rattle.pe_rewrite.specs.WrittenImages.{edited_headers, entry_of, headers_roomy, leaves_of_image, optional_roomy, resized, sections_with}
-use Rattle.pe_rewrite.specs.declared.place.Place.{Place}
-use Rattle.pe_rewrite.specs.declared.place.Target.{Target}
-use Rattle.pe_rewrite.specs.declared.room.Room.{Room}
+use Rattle.std.proofs.Common.{◌≡◌, ℕ, suc, ◌+◌, ◌-◌, ◌*◌, ◌%◌, ◌^◌, ◌<◌, ◌≤◌, ◌≢◌, ◌&&◌, ◌||◌, ◌⊎◌, Bool, true, false, List, ◌∷◌, ◌++◌, length, get_or, take, drop, map, max, Option, Some, Result, Ok, ap, sym, ◌∙◌, ⊎_elim, arith, length-append}
+use Rattle.pe_rewrite.proofs.Cited.{nat_le, nat_lt, is_power_of_two, option_map, cases_lt, ext_get_or, get_or_append_left}
+use Rattle.pe_rewrite.proofs.Cited.{get_or-append_right, get_or-drop, get_or-take, length-drop, length-take-le, AreBytes, bytes_of}
+use Rattle.pe_rewrite.proofs.Cited.{splice, HeaderView, OptionalHeaderView, header_at, ◌>>=◌, each, offset_of, section_map}
+use Rattle.pe_rewrite.proofs.Cited.{sections_offset, ParseMode, ParseOptions, SectionTable, get_or-each, length-each, file_bytes}
+use Rattle.pe_rewrite.proofs.Cited.{Each, Leaf, Numbers, section, range_past, RoomLies, at_end, edited_file, edited_of, grown_size}
+use Rattle.pe_rewrite.proofs.Cited.{in_place, is_moved_over, is_pointer, is_written, moved_file, roomy_file, sum_by, sum_of}
+use Rattle.pe_rewrite.proofs.Cited.{with_pointers, with_resources, with_sum, is_outside, place_of, section_header, section_headers}
+use Rattle.pe_rewrite.proofs.Cited.{RewriteRefusal, room_of, edited_headers, entry_of, headers_roomy, leaves_of_image}
+use Rattle.pe_rewrite.proofs.Cited.{optional_roomy, resized, sections_with, Place, Room, or_parts, same_some, same_ok}
 use Rattle.pe_rewrite.proofs.Placed.{Placed, placed_value}
 use Rattle.pe_rewrite.proofs.Pointers.{byte_with, head_with, length_with, pointer_missed, room_with, rows_with, small_with, tail_with}
 use Rattle.pe_rewrite.proofs.RoomBytes.{roomy_byte, roomy_byte_after}
@@ -35,13 +18,10 @@ use Rattle.pe_rewrite.proofs.RoomPlaced.{TableIs, other_header, roomy_placed, ta
 use Rattle.pe_rewrite.proofs.RoomWrites.{roomy_length}
 use Rattle.pe_rewrite.proofs.Roomy.{HasRoom, has_room, room_lies}
 use Rattle.pe_rewrite.proofs.WrittenImages.{IsFile, bytes_stay_placed, directory_read_placed, headers_parsed_placed, length_stays_placed, map_is_same_placed, mapped_byte_placed}
-use Rattle.pe_rewrite.proofs.WrittenSections.{IsEdited, is_edited, other_row, own_row}
+use Rattle.pe_rewrite.proofs.WrittenSections.{IsEdited, is_edited, other_row, own_row, four_false}
 use Rattle.pe_rewrite.proofs.WrittenTrees.{leaves_found_placed}
 
 -- ---- the file
-
-same_ok : {X R : Type 0} (r : Result X R) (x y : X) → r ≡ Ok x → r ≡ Ok y → x ≡ y
-same_ok r x y e i = cc
 
 -- the file is that with these leaves, if there is this room
 moved_is : (b : List ℕ) (h : HeaderView) (xs : List Leaf) (m : Room) (f : List ℕ) → room_of b h xs ≡ Ok m → at_end b h xs ≡ Ok f → moved_file h m xs b ≡ f
@@ -49,20 +29,14 @@ moved_is b h xs m f e i = same_ok (at_end b h xs) (moved_file h m xs b) f (ap (�
 
 -- the checksum is by the same field
 pub sum_roomy : (p : ℕ) (o : Option OptionalHeaderView) (m : Room) (f : List ℕ) → sum_by p (option_map (optional_roomy m) o) f ≡ sum_by p o f
-sum_roomy p None m f = refl
-sum_roomy p (Some o) m f = refl
+sum_roomy p o m f = grind arith
 
 pub file_roomy : (h : HeaderView) (m : Room) (f : List ℕ) → with_sum (headers_roomy m h) f ≡ with_sum h f
 unfolding with_sum
 file_roomy h m f = ap (λ (n : ℕ). splice f (h.dos_header.pe_pointer + 88) (bytes_of 4 n)) (sum_roomy h.dos_header.pe_pointer h.optional_header m f)
 
-pub some_is : {X : Type 0} (x y : X) → Some x ≡ Some y → x ≡ y
-some_is x y e = cc
-
 alignment_of : (b : List ℕ) (h : HeaderView) (xs : List Leaf) (m : Room) (x : HasRoom b h xs m) (w : OptionalHeaderView) → h.optional_header ≡ Some w → w.windows_fields.file_alignment ≡ x.target.file_alignment
-alignment_of b h xs m x w some =
-    let same : w ≡ x.of.optional = some_is w x.of.optional (sym some ∙ x.of.some) in
-    ap (λ (o : OptionalHeaderView). o.windows_fields.file_alignment) same ∙ ap (λ (t : Target). t.file_alignment) x.of.value
+alignment_of b h xs m x w some = grind (arith, same_some)
 
 -- f is the file with the leaves in this room
 pub record IsMoved (b : List ℕ) (h : HeaderView) (xs : List Leaf) (m : Room) (f : List ℕ) : Type 0 where
@@ -103,42 +77,19 @@ length_moved b h xs m f small e i =
 pub roomy_stays : (b : List ℕ) (h : HeaderView) (xs : List Leaf) (m : Room) (f : List ℕ) (k : ℕ) → IsMoved b h xs m f → is_written h m.place k ≡ false → get_or f k 0 ≡ get_or (roomy_file h m (with_pointers m b)) k 0
 roomy_stays b h xs m f k y out = bytes_stay_placed (roomy_file h m (with_pointers m b)) (headers_roomy m h) xs m.place f k y.file out
 
-pub first_false : (t u : Bool) → (t || u) ≡ false → (t ≡ false) × (u ≡ false)
-first_false false u e = (refl, e)
-first_false true u e = absurd cc
-
 pub six_of : (a b c d e w : Bool) → (a || (b || (c || (d || (e || w))))) ≡ false → (a ≡ false) × ((b ≡ false) × ((c ≡ false) × ((d ≡ false) × ((e ≡ false) × (w ≡ false)))))
-six_of false false false false false false h = (refl, (refl, (refl, (refl, (refl, refl)))))
-six_of false false false false false true h = absurd cc
-six_of false false false false true w h = absurd cc
-six_of false false false true e w h = absurd cc
-six_of false false true d e w h = absurd cc
-six_of false true c d e w h = absurd cc
-six_of true b c d e w h = absurd cc
-
-third_of : (a b c d : Bool) → (a || (b || (c || d))) ≡ false → c ≡ false
-third_of false false false d h = refl
-third_of false false true d h = absurd cc
-third_of false true c d h = absurd cc
-third_of true b c d h = absurd cc
+six_of a b c d e w h = grind arith
 
 pub bytes_before : (b : List ℕ) (h : HeaderView) (xs : List Leaf) (m : Room) (f : List ℕ) (k : ℕ) → AreBytes b → room_of b h xs ≡ Ok m → at_end b h xs ≡ Ok f → k < m.end → is_moved_over h m k ≡ false → get_or f k 0 ≡ get_or b k 0
 bytes_before b h xs m f k small e i lt over =
     let y : IsMoved b h xs m f = is_moved b h xs m f small e i in
     let p : ℕ = h.dos_header.pe_pointer in
-    let in_raw : Bool = nat_le m.place.section.pointer_to_raw_data k && nat_lt k (m.place.section.pointer_to_raw_data + m.place.section.size_of_raw_data) in
-    let in_row : Bool = nat_le (m.place.row + 8) k && nat_lt k (m.place.row + 8 + 4) in
-    let in_entry : Bool = nat_le m.place.entry k && nat_lt k (m.place.entry + 8) in
-    let in_sum : Bool = nat_le (p + 88) k && nat_lt k (p + 88 + 4) in
-    let apart = first_false (is_pointer m.debug k) _ over in
+    let apart = or_parts (is_pointer m.debug k) _ over in
     let s = six_of (nat_le (p + 6) k && nat_lt k (p + 6 + 2)) (nat_le (p + 12) k && nat_lt k (p + 12 + 4)) (nat_le (p + 32) k && nat_lt k (p + 32 + 4)) (nat_le (p + 80) k && nat_lt k (p + 80 + 4)) (nat_le m.place.row k && nat_lt k (m.place.row + 40)) (is_written h m.place k) apart.1 in
     let c : List ℕ = with_pointers m b in
     roomy_stays b h xs m f k y s.1.1.1.1.1
-    ∙ roomy_byte h m c k (room_lies c h xs m y.room) lt s.0 s.1.0 s.1.1.0 s.1.1.1.0 (third_of in_raw in_row in_entry in_sum s.1.1.1.1.1) s.1.1.1.1.0
+    ∙ roomy_byte h m c k (room_lies c h xs m y.room) lt s.0 s.1.0 s.1.1.0 s.1.1.1.0 (grind (arith, s.1.1.1.1.1)) s.1.1.1.1.0
     ∙ byte_with b h xs m k y.old (pointer_missed m.debug k apart.0)
-
-pub four_false : (a b c d : Bool) → a ≡ false → b ≡ false → c ≡ false → d ≡ false → (a || (b || (c || d))) ≡ false
-four_false a b c d i j k l = rw (i, j, k, l) refl
 
 pub bytes_after : (b : List ℕ) (h : HeaderView) (xs : List Leaf) (m : Room) (f : List ℕ) (k : ℕ) → AreBytes b → room_of b h xs ≡ Ok m → at_end b h xs ≡ Ok f → m.end ≤ k → get_or f (k + m.more) 0 ≡ get_or b k 0
 bytes_after b h xs m f k small e i from =
@@ -218,8 +169,7 @@ pub sections_moved : (b : List ℕ) (h : HeaderView) (xs : List Leaf) (m : Room)
     section_headers f (headers_roomy m h) ≡ sections_with i (resized (grown_size m.place) m.place.section) (section_headers b h)
 sections_moved b h xs m f i small e j row =
     let y : IsMoved b h xs m f = is_moved b h xs m f small e j in
-    ap (λ (g : List ℕ). section_headers g (headers_roomy m h)) (sym y.file.file) ∙ sections_by (with_pointers m b) h xs m y.room y.small i row
-    ∙ ap (sections_with i (resized (grown_size m.place) m.place.section)) (rows_with b h xs m y.old)
+    grind (arith, y.file.file, sections_by (with_pointers m b) h xs m y.room y.small i row, rows_with b h xs m y.old)
 
 -- ---- the map
 
@@ -265,19 +215,9 @@ leaves_moved o b h xs m f w small numbers e i some resolves =
 
 -- ---- which of the two an edit writes
 
-second_by : (t : Bool) (k : RewriteRefusal) (s : Result (List ℕ) RewriteRefusal) (f : List ℕ) → (if t then s else Err k) ≡ Ok f → s ≡ Ok f
-second_by true k s f e = e
-second_by false k s f e = absurd cc
-
-or_cases : (r s : Result (List ℕ) RewriteRefusal) (f : List ℕ) → or_at_end r s ≡ Ok f → (r ≡ Ok f) ⊎ (s ≡ Ok f)
-or_cases (Ok g) s f e = inl e
-or_cases (Err k) s f e = inr (second_by (wants_room k) k s f e)
-
 pub one_of_two : (b : List ℕ) (h : HeaderView) (x : Leaf) (xs : List Leaf) (f : List ℕ) → edited_of b h (x ∷ xs) ≡ Ok f → (in_place b h (x ∷ xs) ≡ Ok f) ⊎ (at_end b h (x ∷ xs) ≡ Ok f)
-one_of_two b h x xs f e = or_cases (in_place b h (x ∷ xs)) (at_end b h (x ∷ xs)) f e
+one_of_two b h x xs f e = grind arith
 
 -- in place wherever there is one
 pub first_is_place : (b : List ℕ) (h : HeaderView) (x : Leaf) (xs : List Leaf) (p : Place) → place_of b h (x ∷ xs) ≡ Ok p → edited_of b h (x ∷ xs) ≡ in_place b h (x ∷ xs)
-first_is_place b h x xs p e =
-    let is : in_place b h (x ∷ xs) ≡ Ok (edited_file h p (x ∷ xs) b) = placed_value b h (x ∷ xs) p e in
-    ap (λ (r : Result (List ℕ) RewriteRefusal). or_at_end r (at_end b h (x ∷ xs))) is ∙ sym is
+first_is_place b h x xs p e = grind (arith, placed_value)

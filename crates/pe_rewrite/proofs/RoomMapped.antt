@@ -1,36 +1,19 @@
 -- The section map of an image whose resources are at its end, and the bytes that it leads to.
-use Rattle.std.proofs.Common.{◌≡◌, ℕ, ◌+◌, ◌<◌, ◌≤◌, ◌≢◌, ◌==◌, ◌&&◌, ◌||◌, Bool, true, false, List, length, get_or, Option, Some, None, refl, ap, sym, ◌∙◌, arith}
-use Rattle.std.specs.Prelude.{nat_le, if◌then◌else◌}
-use Rattle.std.specs.Int.{is_power_of_two}
-use Rattle.std.proofs.lemmas.Bool.Decides.{nat_tests}
-use Rattle.pe_core.specs.Bytes.{AreBytes}
-use Rattle.pe_core.specs.Header.{HeaderView}
-use Rattle.pe_core.specs.Rows.{each}
-use Rattle.pe_core.specs.SectionMap.{covers, offset_by, offset_of, raw_start, rounded_up}
-use Rattle.pe_core.specs.Sections.{raw_end, sections_offset}
-use Rattle.pe_core.specs.declared.section_table.SectionTable.{SectionTable}
-use Rattle.pe_core.proofs.Map.{positive}
-use Rattle.pe_edit.specs.Written.{Leaf}
-use Rattle.pe_sign.proofs.Digests.{range_past}
-use Rattle.pe_rewrite.specs.Edited.{RoomLies, roomy_file}
-use Rattle.pe_rewrite.specs.Places.{is_outside, pages_end, section_header, section_headers}
-use Rattle.pe_rewrite.specs.Rooms.{is_before, table_end}
-use Rattle.pe_rewrite.specs.WrittenImages.{headers_roomy}
-use Rattle.pe_rewrite.specs.declared.room.Room.{Room}
+use Rattle.std.proofs.Common.{◌≡◌, ℕ, ◌+◌, ◌<◌, ◌≤◌, ◌≢◌, ◌==◌, Bool, true, false, List, length, get_or, Option, Some, None, refl, ap, sym, ◌∙◌, arith}
+use Rattle.pe_rewrite.proofs.Cited.{if◌then◌else◌, is_power_of_two, nat_tests, AreBytes, HeaderView, each, covers, offset_by}
+use Rattle.pe_rewrite.proofs.Cited.{offset_of, sections_offset, SectionTable, positive, Leaf, range_past, RoomLies, roomy_file}
+use Rattle.pe_rewrite.proofs.Cited.{is_outside, pages_end, section_header, section_headers, is_before, table_end, headers_roomy}
+use Rattle.pe_rewrite.proofs.Cited.{Room}
 use Rattle.pe_rewrite.proofs.Mapped.{Covered, Found, by_each, covered_end, covered_of, covers_none, first_some, found_each, maps_but_one, offset_none}
 use Rattle.pe_rewrite.proofs.RoomBytes.{roomy_byte}
 use Rattle.pe_rewrite.proofs.RoomPlaced.{TableIs, before_last, other_header, own_header, table_is}
 use Rattle.pe_rewrite.proofs.Roomy.{HasRoom, room_lies}
 use Rattle.pe_rewrite.proofs.WrittenSections.{out_of}
 
--- with fewer data it has fewer pages
-fewer_pages : (s u : SectionTable) (more a : ℕ) → s.virtual_address ≡ u.virtual_address → s.size_of_raw_data ≡ u.size_of_raw_data + more → pages_end s ≤ a → pages_end u ≤ a
-fewer_pages s u more a at size h = omega (arith, at, size, h)
-
 old_outside : (b : List ℕ) (h : HeaderView) (xs : List Leaf) (m : Room) (x : HasRoom b h xs m) (a : ℕ) → is_outside m.place.section a ≡ true → x.section.section.virtual_address ≤ a → pages_end x.section.section ≤ a
 old_outside b h xs m x a out from =
     let t : TableIs b h xs m x = table_is b h xs m x in
-    fewer_pages m.place.section x.section.section x.section.more a t.address t.size (out_of m.place.section a out (omega (arith, t.address, from)))
+    omega (arith, t.address, t.size, out_of m.place.section a out (omega (arith, t.address, from)))
 
 -- outside of the section the map is that of the image
 pub roomy_map : (b : List ℕ) (h : HeaderView) (xs : List Leaf) (m : Room) (x : HasRoom b h xs m) (resolve : Bool) (alignment a : ℕ) → AreBytes b → is_outside m.place.section a ≡ true →
@@ -46,26 +29,9 @@ roomy_map b h xs m x resolve alignment a small out =
 
 -- ---- the bytes of the other sections
 
-before_parts : (v z h r p : Bool) → z ≡ false → (v && (z || (h && (r && p)))) ≡ true → (h ≡ true) × (r ≡ true)
-before_parts v true h r p e i = absurd cc
-before_parts true false true true p e i = (refl, refl)
-before_parts true false true false p e i = absurd cc
-before_parts true false false r p e i = absurd cc
-before_parts false false h r p e i = absurd cc
-
 -- a file offset that another section is mapped to is after the headers, and before the section's data
 pub within : (t : Bool) (alignment end a q : ℕ) (s u : SectionTable) → 0 < alignment → (u.size_of_raw_data == 0) ≡ t → is_before alignment end s u ≡ true → Covered alignment a q u → (end ≤ q) × (q < s.pointer_to_raw_data)
-within true alignment end a q s u some e d c =
-    let none : u.size_of_raw_data ≡ 0 = grind (arith, nat_tests, e) in
-    let no : covers alignment a u ≡ false = covers_none alignment a u (λ i. omega (arith, none, i)) in
-    let yes : covers alignment a u ≡ true = c.covers in
-    absurd cc
-within false alignment end a q s u some e d c =
-    let both = before_parts (nat_le (u.virtual_address + u.virtual_size) s.virtual_address) (u.size_of_raw_data == 0) (nat_le end (raw_start u)) (nat_le (rounded_up (raw_end u) alignment) s.pointer_to_raw_data) (nat_le (pages_end u) s.virtual_address) e d in
-    let from : end ≤ raw_start u = grind (arith, nat_tests, both.0) in
-    let to : rounded_up (raw_end u) alignment ≤ s.pointer_to_raw_data = grind (arith, nat_tests, both.1) in
-    let less : q < rounded_up (raw_end u) alignment = covered_end alignment a q u some c in
-    (omega (arith, from, c.offset), omega (arith, to, less))
+within t alignment end a q s u some e d c = grind (arith, nat_tests, covers_none, covered_end)
 
 pub roomy_mapped : (b : List ℕ) (h : HeaderView) (xs : List Leaf) (m : Room) (x : HasRoom b h xs m) (alignment a q : ℕ) → alignment ≡ x.target.file_alignment → is_power_of_two alignment ≡ true → is_outside m.place.section a ≡ true →
     offset_of true alignment (section_headers b h) a ≡ Some q → get_or (roomy_file h m b) q 0 ≡ get_or b q 0

@@ -1,13 +1,8 @@
 -- The file with room for resources, written into a buffer.
 use Rattle.std.proofs.Common.{◌≡◌, ℕ, ◌+◌, ◌≤◌, List, [], ◌∷◌, ◌++◌, length, take, drop, replicate, refl, ap, sym, ◌∙◌, subst, arith, length-append}
-use Rattle.std.proofs.lemmas.List.{append_assoc, length-drop, length-replicate, length-take-le}
-use Rattle.pe_core.specs.Bytes.{bytes_of, splice}
-use Rattle.pe_core.specs.Header.{HeaderView}
-use Rattle.pe_core.specs.Spelling.{spell_section}
-use Rattle.pe_core.specs.declared.section_table.SectionTable.{SectionTable}
-use Rattle.pe_core.proofs.Splices.{length-bytes_of, length-splice, splice-splice}
-use Rattle.pe_rewrite.specs.Edited.{FieldsLie, Inside, RoomLies, changed, room_changes, roomy_file, with_zeros}
-use Rattle.pe_rewrite.specs.declared.room.Room.{Room}
+use Rattle.pe_rewrite.proofs.Cited.{append_assoc, length-drop, length-replicate, length-take-le, bytes_of, splice, HeaderView}
+use Rattle.pe_rewrite.proofs.Cited.{spell_section, SectionTable, length-bytes_of, length-splice, splice-splice, FieldsLie, Inside}
+use Rattle.pe_rewrite.proofs.Cited.{RoomLies, changed, room_changes, roomy_file, with_zeros, Room}
 use Rattle.pe_rewrite.proofs.Writes.{Fit, inner, length-changed}
 
 -- ---- a section header
@@ -22,11 +17,7 @@ pub laid_first : {b now : List ℕ} {p : ℕ} (x : List ℕ) (n : ℕ) → p ≤
 laid_first x n h l e = record { inside = h; count = l; same = e }
 
 pub then_number : {b old now x : List ℕ} {p n : ℕ} (w v : ℕ) → Laid b p n old x → now ≡ splice old (p + n) (bytes_of w v) → Laid b p (n + w) now (x ++ bytes_of w v)
-then_number {b} {old} {now} {x} {p} {n} w v l e = record {
-  inside = l.inside;
-  count = omega (arith, length-append x (bytes_of w v), l.count, length-bytes_of w v);
-  same = e ∙ ap (λ (o : List ℕ). splice o (p + n) (bytes_of w v)) l.same ∙ ap (λ (k : ℕ). splice (splice b p x) (p + k) (bytes_of w v)) (sym l.count) ∙ splice-splice b p x (bytes_of w v) l.inside;
-}
+then_number w v l e = grind (arith, length-append, length-bytes_of, splice-splice)
 
 pub length_row : (s : SectionTable) → length s.name ≡ 8 → length (spell_section s) ≡ 40
 unfolding spell_section
@@ -55,23 +46,7 @@ apart_set old b one two three e d h i j k =
 -- ---- the headers
 
 pub fields_fit : (h : HeaderView) (m : Room) (n : ℕ) → FieldsLie h m n → Fit n (room_changes h.dos_header.pe_pointer m)
-fields_fit h m n l =
-    let row : length (spell_section m.place.section) ≡ 40 = length_row m.place.section l.name in (
-      omega (arith, length-bytes_of 2 m.number_of_sections, l.sum, l.entry, l.row),
-      (
-        omega (arith, length-bytes_of 4 m.pointer_to_symbol_table, l.sum, l.entry, l.row),
-        (
-          omega (arith, length-bytes_of 4 m.size_of_initialized_data, l.sum, l.entry, l.row),
-          (
-            omega (arith, length-bytes_of 4 m.size_of_image, l.sum, l.entry, l.row),
-            (
-              omega (arith, length-bytes_of 4 m.place.section.virtual_address, l.entry, l.row),
-              (omega (arith, length-bytes_of 4 m.place.length, l.entry, l.row), (omega (arith, row, l.row), tt)),
-            ),
-          ),
-        ),
-      ),
-    )
+fields_fit h m n l = grind (arith, length_row, length-bytes_of)
 
 -- the fields of a room lie in a file that has the bytes before it
 pub fields_of : (h : HeaderView) (m : Room) (n k : ℕ) → RoomLies h m n → m.end ≤ k → FieldsLie h m k
@@ -113,10 +88,4 @@ room_set h m old b one new l i e =
 -- ---- the leaves in it
 
 pub room_inside : (h : HeaderView) (m : Room) (n : ℕ) → RoomLies h m n → Inside h m.place (n + m.more)
-room_inside h m n l = record {
-  sum = omega (arith, l.sum, l.entry, l.row, l.end);
-  entry = omega (arith, l.entry, l.row, l.end);
-  row = omega (arith, l.row, l.end);
-  end = omega (arith, l.section, l.end);
-  room = l.room;
-}
+room_inside h m n l = grind arith

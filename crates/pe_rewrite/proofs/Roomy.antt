@@ -1,44 +1,23 @@
 -- What is known of an image that has room for resources at its end.
-use Rattle.std.proofs.Common.{◌≡◌, ℕ, ◌+◌, ◌-◌, ◌*◌, ◌/◌, ◌%◌, ◌^◌, ◌<◌, ◌≤◌, ◌==◌, ◌&&◌, ◌⊎◌, inl, inr, Bool, true, false, List, [], ◌∷◌, length, Result, Ok, Err, refl, ap, sym, subst, ⊎_elim, arith}
-use Rattle.std.specs.Prelude.{nat_le, nat_lt}
-use Rattle.std.specs.List.{list_all}
-use Rattle.std.proofs.lemmas.Bool.Decides.{nat_tests}
-use Rattle.std.proofs.lemmas.List.{places}
-use Rattle.std.proofs.Math.Nat.{lt-div-mul-add, mul-mod_left}
-use Rattle.pe_core.specs.Bytes.{AreBytes, le}
-use Rattle.pe_core.specs.Header.{HeaderView, OptionalHeaderView, directories_offset}
-use Rattle.pe_core.specs.Records.{section_table}
-use Rattle.pe_core.specs.Refusals.{outcome}
-use Rattle.pe_core.specs.Rows.{each}
-use Rattle.pe_core.specs.SectionMap.{rounded_up}
-use Rattle.pe_core.specs.Sections.{raw_end, sections_offset}
-use Rattle.pe_core.specs.declared.section_table.SectionTable.{SectionTable}
-use Rattle.pe_core.proofs.Map.{positive}
-use Rattle.pe_core.proofs.NumberBytes.{le_small}
-use Rattle.pe_edit.specs.Written.{Leaf}
-use Rattle.pe_sign.specs.WrittenHeaders.{directories_end, directories_end_after}
-use Rattle.pe_rewrite.specs.Edited.{RoomLies}
-use Rattle.pe_rewrite.specs.Places.{debug_entries, header_tests, headers_end, index_of, is_alone, length_at, section_header, target_of}
-use Rattle.pe_rewrite.specs.Rooms.{are_u32, count_with, data_end, debug_moves, ends_data, enlarged, entries_lie, entry_moves, has_header, image_end, is_last, is_u32, new_room, new_section, or_else, own_room, rvas_tests, own_section, room_at, room_of, room_tests, room_with, sizes_of, symbols_move, table_end}
-use Rattle.pe_rewrite.specs.RewriteRefusals.{RewriteRefusal, ImageTooLarge}
-use Rattle.pe_rewrite.specs.declared.place.Target.{Target}
-use Rattle.pe_rewrite.specs.declared.room.LastSection.{LastSection}
-use Rattle.pe_rewrite.specs.declared.room.Room.{Room}
+use Rattle.std.proofs.Common.{◌≡◌, ℕ, ◌+◌, ◌-◌, ◌/◌, ◌%◌, ◌^◌, ◌<◌, ◌≤◌, ◌==◌, ◌&&◌, ◌⊎◌, true, List, [], ◌∷◌, length, Result, Ok, refl, ap, sym, subst, ⊎_elim, arith}
+use Rattle.pe_rewrite.proofs.Cited.{nat_le, list_all, nat_tests, places, lt-div-mul-add, mul-mod_left, AreBytes, le, HeaderView}
+use Rattle.pe_rewrite.proofs.Cited.{section_table, outcome, each, rounded_up, raw_end, SectionTable, positive, le_small, Leaf}
+use Rattle.pe_rewrite.proofs.Cited.{RoomLies, debug_entries, header_tests, headers_end, index_of, is_alone, length_at}
+use Rattle.pe_rewrite.proofs.Cited.{section_header, target_of, are_u32, count_with, data_end, debug_moves, ends_data, enlarged}
+use Rattle.pe_rewrite.proofs.Cited.{entries_lie, entry_moves, has_header, image_end, is_last, is_u32, new_room, new_section}
+use Rattle.pe_rewrite.proofs.Cited.{or_else, own_room, rvas_tests, own_section, room_at, room_of, room_tests, room_with, sizes_of}
+use Rattle.pe_rewrite.proofs.Cited.{symbols_move, table_end, RewriteRefusal, ImageTooLarge, Target, LastSection, Room, wide, passed}
+use Rattle.pe_rewrite.proofs.Cited.{value_is, both}
 use Rattle.pe_rewrite.proofs.Placed.{HeadersLie, IndexIs, Made, TargetIs, headers_lie, index_is, made_at, target_is}
-use Rattle.pe_rewrite.proofs.Results.{first_of, first_ok, passed, second_of, value_is}
-use Rattle.pe_sign.proofs.HeadersStay.{wide}
+use Rattle.pe_rewrite.proofs.Results.{first_ok}
 
 pub count_small : (b : List ℕ) (h : HeaderView) (t : Target) (i : ℕ) → has_header b h t i ≡ true → count_with h i < 65536
-count_small b h t i e =
-    let small : nat_lt (count_with h i) 65536 ≡ true = first_of (nat_lt (count_with h i) 65536) _ e in
-    grind (arith, nat_tests, small)
+count_small b h t i e = grind (arith, both, nat_tests)
 
 -- ---- the section
 
 up_least : (n u : ℕ) → 0 < u → n ≤ rounded_up n u
-up_least n u some =
-    let past : n + (u - 1) < (n + (u - 1)) / u * u + u = lt-div-mul-add some in
-    omega (arith, past, some)
+up_least n u some = grind (arith, lt-div-mul-add)
 
 up_multiple : (n u : ℕ) → 0 < u → rounded_up n u % u ≡ 0
 up_multiple n u some = mul-mod_left ((n + (u - 1)) / u) u
@@ -60,16 +39,7 @@ le_small_two b p small = omega (arith, small p, small (p + 1), small (p + 0))
 
 small_row : (b : List ℕ) (p : ℕ) → AreBytes b → SmallRow (section_table b p)
 unfolding section_table
-small_row b p small = record {
-  virtual_size = le_small b (p + 8) small;
-  virtual_address = le_small b (p + 12) small;
-  pointer_to_raw_data = le_small b (p + 20) small;
-  pointer_to_relocations = le_small b (p + 24) small;
-  pointer_to_linenumbers = le_small b (p + 28) small;
-  number_of_relocations = le_small_two b (p + 32) small;
-  number_of_linenumbers = le_small_two b (p + 34) small;
-  characteristics = le_small b (p + 36) small;
-}
+small_row b p small = grind (arith, le_small, le_small_two)
 
 name_of : (b : List ℕ) (p : ℕ) → p + 8 ≤ length b → length (section_table b p).name ≡ 8
 unfolding section_table
@@ -85,42 +55,12 @@ pub record IsLast (b : List ℕ) (h : HeaderView) (alignment n : ℕ) (l : LastS
   pub multiple : l.more % alignment ≡ 0
 
 pub own_is_last : (b : List ℕ) (h : HeaderView) (t : Target) (n i : ℕ) → headers_end h ≤ length b → 0 < t.file_alignment → i < h.coff_header.number_of_sections → IsLast b h t.file_alignment n (own_section b h t n i)
-own_is_last b h t n i inside some below = record {
-  index = omega (arith, below);
-  name = name_of b (sections_offset h + 40 * i) (omega (arith, below, inside));
-  row = λ lt. refl;
-  small = λ small. small_row b (sections_offset h + 40 * i) small;
-  room = omega (arith, up_least (n - (section_header b h i).size_of_raw_data) t.file_alignment some);
-  multiple = up_multiple (n - (section_header b h i).size_of_raw_data) t.file_alignment some;
-}
+own_is_last b h t n i inside some below = grind (arith, name_of, small_row, up_least, up_multiple)
 
 new_is_last : (b : List ℕ) (h : HeaderView) (t : Target) (n : ℕ) → 0 < t.file_alignment → image_end t < 256 ^ 4 → data_end b h t < 256 ^ 4 → IsLast b h t.file_alignment n (new_section b h t n)
-new_is_last b h t n some rva offset = record {
-  index = omega arith;
-  name = refl;
-  row = λ lt. absurd (omega (arith, lt));
-  small = λ small. record {
-    virtual_size = omega arith;
-    virtual_address = rva;
-    pointer_to_raw_data = offset;
-    pointer_to_relocations = omega arith;
-    pointer_to_linenumbers = omega arith;
-    number_of_relocations = omega arith;
-    number_of_linenumbers = omega arith;
-    characteristics = omega arith;
-  };
-  room = omega (arith, up_least n t.file_alignment some);
-  multiple = up_multiple n t.file_alignment some;
-}
+new_is_last b h t n some rva offset = grind (arith, up_least, up_multiple)
 
 -- ---- the tests
-
--- the PE signature is after the DOS header
-pub after_dos : (b : List ℕ) (h : HeaderView) (t : Target) (i : ℕ) → has_header b h t i ≡ true → 64 ≤ h.dos_header.pe_pointer
-after_dos b h t i e =
-    let rest = second_of (nat_lt (count_with h i) 65536) _ e in
-    let after : nat_le 64 h.dos_header.pe_pointer ≡ true = first_of (nat_le 64 h.dos_header.pe_pointer) _ rest in
-    grind (arith, nat_tests, after)
 
 pub record RoomFits (b : List ℕ) (h : HeaderView) (t : Target) (n : ℕ) (l : LastSection) : Type 0 where
   pub count : count_with h l.index < 65536
@@ -160,28 +100,28 @@ room_fits b h t n l r m e =
     let five = passed (symbols_move h l) _ _ m four.1 in
     let six = passed (is_last b h t l) _ _ m five.1 in
     let z = sizes_of h t n l in
-    let end : is_u32 z.data_end ≡ true = first_of (is_u32 z.data_end) _ two.0 in
-    let more = second_of (is_u32 z.data_end) _ two.0 in
-    let symbols : is_u32 z.pointer_to_symbol_table ≡ true = first_of (is_u32 z.pointer_to_symbol_table) _ more in
-    let rest = second_of (is_u32 z.pointer_to_symbol_table) _ more in
-    let initialized : is_u32 z.size_of_initialized_data ≡ true = first_of (is_u32 z.size_of_initialized_data) (is_u32 z.size_of_image) rest in
-    let image : is_u32 z.size_of_image ≡ true = second_of (is_u32 z.size_of_initialized_data) (is_u32 z.size_of_image) rest in
-    let start : nat_le (table_end h l.index) l.section.pointer_to_raw_data ≡ true = first_of (nat_le (table_end h l.index) l.section.pointer_to_raw_data) _ three.0 in
-    let rest_of = second_of (nat_le (table_end h l.index) l.section.pointer_to_raw_data) _ three.0 in
-    let file = second_of (l.section.pointer_to_raw_data % 512 == 0) _ rest_of in
-    let inside : nat_le (raw_end l.section) (length b) ≡ true = second_of (raw_end l.section % t.file_alignment == 0) _ file in
+    let end : is_u32 z.data_end ≡ true = (both (is_u32 z.data_end) _ two.0).0 in
+    let more = (both (is_u32 z.data_end) _ two.0).1 in
+    let symbols : is_u32 z.pointer_to_symbol_table ≡ true = (both (is_u32 z.pointer_to_symbol_table) _ more).0 in
+    let rest = (both (is_u32 z.pointer_to_symbol_table) _ more).1 in
+    let initialized : is_u32 z.size_of_initialized_data ≡ true = (both (is_u32 z.size_of_initialized_data) (is_u32 z.size_of_image) rest).0 in
+    let image : is_u32 z.size_of_image ≡ true = (both (is_u32 z.size_of_initialized_data) (is_u32 z.size_of_image) rest).1 in
+    let start : nat_le (table_end h l.index) l.section.pointer_to_raw_data ≡ true = (both (nat_le (table_end h l.index) l.section.pointer_to_raw_data) _ three.0).0 in
+    let rest_of = (both (nat_le (table_end h l.index) l.section.pointer_to_raw_data) _ three.0).1 in
+    let file = (both (l.section.pointer_to_raw_data % 512 == 0) _ rest_of).1 in
+    let inside : nat_le (raw_end l.section) (length b) ≡ true = (both (raw_end l.section % t.file_alignment == 0) _ file).1 in
     record {
       count = count_small b h t l.index one.0;
-      dos = after_dos b h t l.index one.0;
+      dos = grind (arith, both, nat_tests, one.0);
       end = grind (arith, nat_tests, end);
       symbols = grind (arith, nat_tests, symbols);
       initialized = grind (arith, nat_tests, initialized);
       image = grind (arith, nat_tests, image);
       start = grind (arith, nat_tests, start);
-      sector = first_of (l.section.pointer_to_raw_data % 512 == 0) _ rest_of;
+      sector = (both (l.section.pointer_to_raw_data % 512 == 0) _ rest_of).0;
       inside = grind (arith, nat_tests, inside);
       last = six.0;
-      entries = first_of (entries_lie h l) _ (debug_of b h t n l r m e);
+      entries = (both (entries_lie h l) _ (debug_of b h t n l r m e)).0;
     }
 
 -- ---- all of it
@@ -209,8 +149,7 @@ pub record HasRoom (b : List ℕ) (h : HeaderView) (xs : List Leaf) (m : Room) :
   pub value : room_at h target length_of section ≡ m
 
 or_cases : (r s : Result Room RewriteRefusal) (m : Room) → or_else r s ≡ Ok m → (r ≡ Ok m) ⊎ (s ≡ Ok m)
-or_cases (Ok r) s m e = inl e
-or_cases (Err k) s m e = inr e
+or_cases r s m e = grind arith
 
 debug_by : (b : List ℕ) (h : HeaderView) (m : Room) (t : Target) (n : ℕ) (l : LastSection) → TargetIs h t → l.debug ≡ debug_entries b h t → room_with b h t n l ≡ Ok m → HasDebug b h m
 debug_by b h m t n l of is e =
@@ -224,7 +163,7 @@ debug_by b h m t n l of is e =
       debug = ap (λ (r : Room). r.debug) (sym value);
       end = ap (λ (r : Room). r.end) (sym value);
       more = ap (λ (r : Room). r.more) (sym value);
-      fit = record { end = fits.end; all = second_of (entries_lie h l) _ (debug_of b h t n l (room_at h t n l) m e) };
+      fit = record { end = fits.end; all = (both (entries_lie h l) _ (debug_of b h t n l (room_at h t n l) m e)).1 };
     }
 
 by_section : (b : List ℕ) (h : HeaderView) (xs : List Leaf) (m : Room) (t : Target) (n : ℕ) (l : LastSection) → TargetIs h t → HeadersLie b h t → Made l.section.virtual_address n xs → IsLast b h t.file_alignment n l → room_with b h t n l ≡ Ok m →
@@ -253,9 +192,9 @@ by_new : (b : List ℕ) (h : HeaderView) (xs : List Leaf) (m : Room) (t : Target
 by_new b h xs m t of headers e =
     let u = first_ok (outcome {Y = Unit {0}} ((is_u32 (image_end t) && is_u32 (data_end b h t), ImageTooLarge) ∷ []) tt) _ m e in
     let n = first_ok (length_at (image_end t) xs) _ m u.1.1 in
-    let both = passed (is_u32 (image_end t) && is_u32 (data_end b h t)) ImageTooLarge (Ok tt) u.0 u.1.0 in
-    let rva : is_u32 (image_end t) ≡ true = first_of (is_u32 (image_end t)) (is_u32 (data_end b h t)) both.0 in
-    let offset : is_u32 (data_end b h t) ≡ true = second_of (is_u32 (image_end t)) (is_u32 (data_end b h t)) both.0 in
+    let fits = passed (is_u32 (image_end t) && is_u32 (data_end b h t)) ImageTooLarge (Ok tt) u.0 u.1.0 in
+    let rva : is_u32 (image_end t) ≡ true = (both (is_u32 (image_end t)) (is_u32 (data_end b h t)) fits.0).0 in
+    let offset : is_u32 (data_end b h t) ≡ true = (both (is_u32 (image_end t)) (is_u32 (data_end b h t)) fits.0).1 in
     let tests = first_ok (outcome {Y = Unit {0}} (rvas_tests b h t (new_section b h t n.0)) tt) _ m n.1.1 in
     by_section b h xs m t n.0 (new_section b h t n.0) of headers (made_at (image_end t) n.0 xs n.1.0)
     (new_is_last b h t n.0 (positive t.file_alignment headers.power) (grind (arith, nat_tests, rva)) (grind (arith, nat_tests, offset))) tests.1.1
@@ -296,21 +235,7 @@ has_debug b h xs m e =
 -- ---- what lies where
 
 pub lies_at : (b : List ℕ) (h : HeaderView) (t : Target) (n : ℕ) (l : LastSection) → TargetIs h t → HeadersLie b h t → IsLast b h t.file_alignment n l → RoomFits b h t n l → RoomLies h (room_at h t n l) (length b)
-lies_at b h t n l of headers is fits =
-    let o : OptionalHeaderView = of.optional in
-    let p : ℕ = h.dos_header.pe_pointer in
-    let at : t.entry ≡ p + 24 + directories_offset (o.standard_fields.magic == 0x20B) + 16 = ap (λ (x : Target). x.entry) (sym of.value) in
-    let end : directories_end h ≡ p + 24 + directories_offset (o.standard_fields.magic == 0x20B) + 8 * length o.data_directories = ap (directories_end_after p) of.some in
-    let fields : 96 ≤ directories_offset (o.standard_fields.magic == 0x20B) = wide (o.standard_fields.magic == 0x20B) in
-    record {
-      sum = omega (arith, at, fields);
-      entry = omega (arith, at, end, of.many, headers.directories);
-      row = omega (arith, fits.start);
-      end = fits.inside;
-      section = omega arith;
-      room = is.room;
-      name = is.name;
-    }
+lies_at b h t n l of headers is fits = grind (arith, wide)
 
 pub room_lies : (b : List ℕ) (h : HeaderView) (xs : List Leaf) (m : Room) → HasRoom b h xs m → RoomLies h m (length b)
 room_lies b h xs m x = subst (λ (r : Room). RoomLies h r (length b)) x.value (lies_at b h x.target x.length_of x.section x.of x.headers x.is x.fits)

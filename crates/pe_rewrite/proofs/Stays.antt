@@ -1,23 +1,15 @@
 -- What stays of a file whose resources change, and what is read of what was written.
-use Rattle.std.proofs.Common.{◌≡◌, ℕ, ◌+◌, ◌-◌, ◌^◌, ◌<◌, ◌≤◌, ◌&&◌, ◌||◌, Bool, true, false, cond, List, [], ◌∷◌, length, get_or, take, drop, refl, ap, sym, ◌∙◌, subst, arith}
-use Rattle.std.specs.Prelude.{nat_le, nat_lt}
-use Rattle.std.proofs.lemmas.Bool.Decides.{nat_tests}
-use Rattle.std.proofs.lemmas.List.{length-take-le}
-use Rattle.pe_core.specs.Bytes.{bytes_of, le, splice}
-use Rattle.pe_core.specs.Header.{HeaderView}
-use Rattle.pe_core.proofs.NumberBytes.{le-same}
+use Rattle.std.proofs.Common.{◌≡◌, ℕ, ◌+◌, ◌^◌, ◌<◌, ◌≤◌, ◌&&◌, false, List, [], ◌∷◌, length, get_or, take, drop, refl, sym, ◌∙◌, subst, arith}
+use Rattle.pe_rewrite.proofs.Cited.{nat_le, nat_lt, nat_tests, length-take-le, bytes_of, le, splice, HeaderView, le-same}
+use Rattle.pe_rewrite.proofs.Cited.{get_or-splice, length-bytes_of, length-splice, Lies, changed, is_written, resource_changes}
+use Rattle.pe_rewrite.proofs.Cited.{sum_of, with_resources, with_sum, Place}
 use Rattle.pe_core.proofs.PutNumbers.{le-after}
-use Rattle.pe_core.proofs.Splices.{get_or-splice, length-bytes_of, length-splice}
-use Rattle.pe_rewrite.specs.Edited.{Lies, changed, grown_size, is_written, resource_changes, sum_of, with_resources, with_sum}
-use Rattle.pe_rewrite.specs.declared.place.Place.{Place}
 use Rattle.pe_rewrite.proofs.Writes.{Fit, changes_fit, length-filled, resources_length, sum_inside}
 
 -- ---- one byte
 
 pub byte_past : (b : List ℕ) (p : ℕ) (s : List ℕ) (n k : ℕ) → length s ≡ n → p + n ≤ length b → (nat_le p k && nat_lt k (p + n)) ≡ false → get_or (splice b p s) k 0 ≡ get_or b k 0
-byte_past b p s n k e h out =
-    let same : (nat_le p k && nat_lt k (p + length s)) ≡ false = ap (λ (m : ℕ). nat_le p k && nat_lt k (p + m)) e ∙ out in
-    get_or-splice b p s k (omega (arith, e, h)) ∙ ap (λ t. cond t (get_or s (k - p) 0) (get_or b k 0)) same
+byte_past b p s n k e h out = grind (arith, get_or-splice)
 
 -- no change writes this byte
 abbrev pub Misses : ℕ → List (ℕ × List ℕ) → Type 0
@@ -34,26 +26,13 @@ byte_changed (c ∷ cs) b k f m =
 abbrev pub Past : ℕ → ℕ → ℕ → Type 0
 Past p n k = (nat_le p k && nat_lt k (p + n)) ≡ false
 
-both_halves : (p k : ℕ) → Past p 8 k → Past p 4 k × Past (p + 4) 4 k
+pub both_halves : (p k : ℕ) → Past p 8 k → Past p 4 k × Past (p + 4) 4 k
 both_halves p k h = (grind (arith, nat_tests, h), grind (arith, nat_tests, h))
-
-pub resources_miss : (h : HeaderView) (p : Place) (r : List ℕ) (k : ℕ) → length r ≤ p.section.size_of_raw_data → Past p.section.pointer_to_raw_data p.section.size_of_raw_data k → Past (p.row + 8) 4 k → Past p.entry 8 k → Misses k (resource_changes p r)
-resources_miss h p r k e raw row entry =
-    let halves = both_halves p.entry k entry in (
-      ap (λ (n : ℕ). nat_le p.section.pointer_to_raw_data k && nat_lt k (p.section.pointer_to_raw_data + n)) (length-filled p.section r e) ∙ raw,
-      (
-        ap (λ (n : ℕ). nat_le (p.row + 8) k && nat_lt k (p.row + 8 + n)) (length-bytes_of 4 (grown_size p)) ∙ row,
-        (
-          ap (λ (n : ℕ). nat_le p.entry k && nat_lt k (p.entry + n)) (length-bytes_of 4 p.section.virtual_address) ∙ halves.0,
-          (ap (λ (n : ℕ). nat_le (p.entry + 4) k && nat_lt k (p.entry + 4 + n)) (length-bytes_of 4 p.length) ∙ halves.1, tt),
-        ),
-      ),
-    )
 
 pub resources_byte : (h : HeaderView) (p : Place) (r b : List ℕ) (k : ℕ) → Lies h p (length b) → length r ≡ p.length → Past p.section.pointer_to_raw_data p.section.size_of_raw_data k → Past (p.row + 8) 4 k → Past p.entry 8 k →
     get_or (with_resources p r b) k 0 ≡ get_or b k 0
 unfolding with_resources
-resources_byte h p r b k l e raw row entry = byte_changed (resource_changes p r) b k (changes_fit h p r (length b) l e) (resources_miss h p r k (omega (arith, e, l.room)) raw row entry)
+resources_byte h p r b k l e raw row entry = byte_changed (resource_changes p r) b k (changes_fit h p r (length b) l e) (grind (arith, both_halves, length-filled, length-bytes_of))
 
 pub sum_byte : (h : HeaderView) (f : List ℕ) (k : ℕ) → h.dos_header.pe_pointer + 92 ≤ length f → Past (h.dos_header.pe_pointer + 88) 4 k → get_or (with_sum h f) k 0 ≡ get_or f k 0
 unfolding with_sum
@@ -65,17 +44,8 @@ pub byte_stays : (h : HeaderView) (p : Place) (r b : List ℕ) (k : ℕ) → Lie
 byte_stays h p r b k l e raw row entry sum =
     sum_byte h (with_resources p r b) k (omega (arith, resources_length h p r b l e, sum_inside h p (length b) l)) sum ∙ resources_byte h p r b k l e raw row entry
 
-none_of : (a b c d : Bool) → (a || (b || (c || d))) ≡ false → (a ≡ false) × ((b ≡ false) × ((c ≡ false) × (d ≡ false)))
-none_of false false false false h = (refl, (refl, (refl, refl)))
-none_of false false false true h = absurd cc
-none_of false false true d h = absurd cc
-none_of false true c d h = absurd cc
-none_of true b c d h = absurd cc
-
 pub unwritten_stays : (h : HeaderView) (p : Place) (r b : List ℕ) (k : ℕ) → Lies h p (length b) → length r ≡ p.length → is_written h p k ≡ false → get_or (with_sum h (with_resources p r b)) k 0 ≡ get_or b k 0
-unwritten_stays h p r b k l e w =
-    let n = none_of (nat_le p.section.pointer_to_raw_data k && nat_lt k (p.section.pointer_to_raw_data + p.section.size_of_raw_data)) (nat_le (p.row + 8) k && nat_lt k (p.row + 8 + 4)) (nat_le p.entry k && nat_lt k (p.entry + 8)) (nat_le (h.dos_header.pe_pointer + 88) k && nat_lt k (h.dos_header.pe_pointer + 88 + 4)) w in
-    byte_stays h p r b k l e n.0 n.1.0 n.1.1.0 n.1.1.1
+unwritten_stays h p r b k l e w = grind (arith, byte_stays)
 
 -- ---- numbers that were written
 

@@ -1,18 +1,10 @@
 -- The parts of a file, written one after the other into a buffer that has the file at its start.
-use Rattle.std.proofs.Common.{◌≡◌, ℕ, ◌+◌, ◌-◌, ◌≤◌, Bool, true, false, Result, Ok, Err, List, [], ◌∷◌, ◌++◌, length, take, drop, refl, ap, sym, ◌∙◌, subst, arith, length-append}
-use Rattle.std.specs.Prelude.{nat_le, replicate}
-use Rattle.std.proofs.lemmas.List.{append-nil, drop_all, drop_at, take_at, take-append-drop, length-replicate, length-take-le}
-use Rattle.pe_core.specs.Refusals.{WriteFit, outcome}
-use Rattle.pe_core.proofs.Comparisons.{le_is}
-use Rattle.pe_edit.specs.EditRefusals.{EditRefusal, Image, written}
-use Rattle.pe_core.specs.Bytes.{bytes_of, splice}
-use Rattle.pe_core.specs.Header.{HeaderView}
-use Rattle.pe_core.specs.declared.section_table.SectionTable.{SectionTable}
-use Rattle.pe_core.proofs.Splices.{length-bytes_of, length-splice, splice-splice}
-use Rattle.pe_sign.proofs.Splices.{splice_first, splice_front}
-use Rattle.pe_edit.specs.Written.{Leaf, section}
-use Rattle.pe_rewrite.specs.Edited.{Inside, Lies, changed, edited_file, filled, grown_size, resource_changes, sum_of, with_resources, with_sum}
-use Rattle.pe_rewrite.specs.declared.place.Place.{Place}
+use Rattle.std.proofs.Common.{◌≡◌, ℕ, ◌+◌, ◌-◌, ◌≤◌, Result, Ok, Err, List, [], ◌∷◌, ◌++◌, length, take, drop, refl, ap, sym, ◌∙◌, subst, arith, length-append}
+use Rattle.pe_rewrite.proofs.Cited.{replicate, append-nil, drop_all, drop_at, take_at, take-append-drop, length-replicate}
+use Rattle.pe_rewrite.proofs.Cited.{length-take-le, le_is, EditRefusal, bytes_of, splice, HeaderView, SectionTable, length-bytes_of}
+use Rattle.pe_rewrite.proofs.Cited.{length-splice, splice-splice, splice_first, splice_front, Leaf, section, Inside, Lies, changed}
+use Rattle.pe_rewrite.proofs.Cited.{edited_file, filled, grown_size, resource_changes, sum_of, with_resources, with_sum, Place}
+use Rattle.pe_edit.specs.EditRefusals.{written}
 
 -- ---- lengths
 
@@ -32,25 +24,10 @@ length-changed (c ∷ cs) b f =
     length-changed cs (splice b c.0 c.1) (subst (λ (n : ℕ). Fit n cs) (sym one) f.1) ∙ one
 
 pub inside_of : (h : HeaderView) (p : Place) (n : ℕ) → Lies h p n → Inside h p n
-inside_of h p n l = record {
-  sum = omega (arith, l.sum, l.entry, l.table, l.row, l.raw, l.end);
-  entry = omega (arith, l.entry, l.table, l.row, l.raw, l.end);
-  row = omega (arith, l.row, l.raw, l.end);
-  end = l.end;
-  room = l.room;
-}
+inside_of h p n l = grind arith
 
 fit_inside : (h : HeaderView) (p : Place) (r : List ℕ) (n : ℕ) → Inside h p n → length r ≡ p.length → Fit n (resource_changes p r)
-fit_inside h p r n l e = (
-  omega (arith, l.end, length-filled p.section r (omega (arith, e, l.room))),
-  (
-    omega (arith, length-bytes_of 4 (grown_size p), l.row),
-    (
-      omega (arith, length-bytes_of 4 p.section.virtual_address, l.entry),
-      (omega (arith, length-bytes_of 4 p.length, l.entry), tt),
-    ),
-  ),
-)
+fit_inside h p r n l e = grind (arith, length-filled, length-bytes_of)
 
 pub changes_fit : (h : HeaderView) (p : Place) (r : List ℕ) (n : ℕ) → Lies h p n → length r ≡ p.length → Fit n (resource_changes p r)
 changes_fit h p r n l e = fit_inside h p r n (inside_of h p n l) e
@@ -82,9 +59,7 @@ length-edited h p xs b l e = length_edited_inside h p xs b (inside_of h p (lengt
 
 -- a write into the file at the start of a buffer
 pub inner : (old b now next s : List ℕ) (p : ℕ) → now ≡ splice old 0 b → next ≡ splice now p s → p + length s ≤ length b → next ≡ splice old 0 (splice b p s)
-inner old b now next s p e f h =
-    f ∙ ap (λ (x : List ℕ). splice x p s) (e ∙ splice_front old b) ∙ splice_first b (drop (length b) old) p s h
-    ∙ ap (λ (n : ℕ). splice b p s ++ drop n old) (sym (length-splice b p s h)) ∙ sym (splice_front old (splice b p s))
+inner old b now next s p e f h = grind (arith, splice_front, splice_first, length-splice)
 
 -- the file at the start of a buffer
 pub start_of : (old f now : List ℕ) (n : ℕ) → now ≡ splice old 0 f → length f ≡ n → take n now ≡ f
@@ -94,25 +69,12 @@ start_of old f now n e h = ap (take n) (e ∙ splice_front old f) ∙ take_at f 
 pub filled_set : (old now next r : List ℕ) (s : SectionTable) (n : ℕ) → s.pointer_to_raw_data ≤ length old → n ≡ length r → now ≡ splice old s.pointer_to_raw_data r → next ≡ splice now (s.pointer_to_raw_data + n) (replicate (s.size_of_raw_data - n) 0) →
     next ≡ splice old s.pointer_to_raw_data (filled s r)
 unfolding filled
-filled_set old now next r s n h is e f =
-    f ∙ ap (λ (k : ℕ). splice now (s.pointer_to_raw_data + k) (replicate (s.size_of_raw_data - k) 0)) is
-    ∙ ap (λ (x : List ℕ). splice x (s.pointer_to_raw_data + length r) (replicate (s.size_of_raw_data - length r) 0)) e
-    ∙ splice-splice old s.pointer_to_raw_data r (replicate (s.size_of_raw_data - length r) 0) h
+filled_set old now next r s n h is e f = grind (arith, splice-splice)
 
 -- four changes, written one after the other
 four_set : (old b one two three four five : List ℕ) (c d e f : ℕ × List ℕ) → Fit (length b) (c ∷ d ∷ e ∷ f ∷ []) → one ≡ splice old 0 b →
     two ≡ splice one c.0 c.1 → three ≡ splice two d.0 d.1 → four ≡ splice three e.0 e.1 → five ≡ splice four f.0 f.1 → five ≡ splice old 0 (changed (c ∷ d ∷ e ∷ f ∷ []) b)
-four_set old b one two three four five c d e f fit i j k l m =
-    let x : List ℕ = splice b c.0 c.1 in
-    let y : List ℕ = splice x d.0 d.1 in
-    let z : List ℕ = splice y e.0 e.1 in
-    let at_two : two ≡ splice old 0 x = inner old b one two c.1 c.0 i j fit.0 in
-    let at_x : length x ≡ length b = length-splice b c.0 c.1 fit.0 in
-    let at_three : three ≡ splice old 0 y = inner old x two three d.1 d.0 at_two k (omega (arith, at_x, fit.1.0)) in
-    let at_y : length y ≡ length b = length-splice x d.0 d.1 (omega (arith, at_x, fit.1.0)) ∙ at_x in
-    let at_four : four ≡ splice old 0 z = inner old y three four e.1 e.0 at_three l (omega (arith, at_y, fit.1.1.0)) in
-    let at_z : length z ≡ length b = length-splice y e.0 e.1 (omega (arith, at_y, fit.1.1.0)) ∙ at_y in
-    inner old z four five f.1 f.0 at_four m (omega (arith, at_z, fit.1.1.1.0))
+four_set old b one two three four five c d e f fit i j k l m = grind (arith, inner, length-splice)
 
 pub resources_set : (h : HeaderView) (p : Place) (old b one two three four five r : List ℕ) → Inside h p (length b) → length r ≡ p.length →
     one ≡ splice old 0 b → two ≡ splice one p.section.pointer_to_raw_data (filled p.section r) → three ≡ splice two (p.row + 8) (bytes_of 4 (grown_size p)) →
@@ -138,41 +100,15 @@ pub whole_front : (old : List ℕ) (n : ℕ) → n ≤ length old → old ≡ sp
 whole_front old n h = sym (splice_front old (take n old) ∙ ap (λ (k : ℕ). take n old ++ drop k old) (length-take-le n old h) ∙ take-append-drop n old)
 
 pub splice_over : (old b f : List ℕ) → length f ≡ length b → splice (splice old 0 b) 0 f ≡ splice old 0 f
-splice_over old b f e =
-    splice_front (splice old 0 b) f ∙ ap (λ (x : List ℕ). f ++ drop (length f) x) (splice_front old b)
-    ∙ ap (λ (l : List ℕ). f ++ l) (drop_at b (drop (length b) old) (length f) (sym e)) ∙ ap (λ (n : ℕ). f ++ drop n old) (sym e) ∙ sym (splice_front old f)
+splice_over old b f e = grind (arith, splice_front, drop_at)
 
 pub over_set : (h : HeaderView) (p : Place) (xs : List Leaf) (old b now new : List ℕ) (n : ℕ) → Inside h p (length b) → length (section p.section.virtual_address xs) ≡ p.length → now ≡ splice old 0 b → length b ≡ n → new ≡ splice now 0 (edited_file h p xs (take n now)) → new ≡ splice old 0 (edited_file h p xs b)
-over_set h p xs old b now new n l e i size is =
-    let there : take n now ≡ b = start_of old b now n i size in
-    is ∙ ap (λ (g : List ℕ). splice now 0 (edited_file h p xs g)) there ∙ ap (λ (x : List ℕ). splice x 0 (edited_file h p xs b)) i
-    ∙ splice_over old b (edited_file h p xs b) (length_edited_inside h p xs b l e)
+over_set h p xs old b now new n l e i size is = grind (arith, start_of, splice_over, length_edited_inside)
 
 -- ---- the section alone
 
-splice_whole : (b s : List ℕ) → length s ≡ length b → splice b 0 s ≡ s
-splice_whole b s e = splice_front b s ∙ ap (λ (l : List ℕ). s ++ l) (drop_all (length s) b (omega (arith, e))) ∙ append-nil s
-
-value_of : (t : Bool) (r : EditRefusal) (m n : ℕ) (x y : List ℕ) → outcome {Y = ℕ × List ℕ} ((t, r) ∷ []) (m, x) ≡ Ok (n, y) → x ≡ y
-value_of true r m n x y e = let pair : ◌≡◌ {A = ℕ × List ℕ} (m, x) (n, y) = cc in ap (λ (z : ℕ × List ℕ). z.1) pair
-value_of false r m n x y e = absurd cc
-
 pub whole_written : (made : Result (List ℕ) EditRefusal) (s old new : List ℕ) (n : ℕ) → written made old ≡ Ok (n, new) → made ≡ Ok s → length s ≡ length old → new ≡ s
-whole_written (Ok r) s old new n e is size =
-    let same : r ≡ s = cc in
-    let fits : length r ≡ length old = ap length same ∙ size in
-    sym (value_of (nat_le (length r) (length old)) (Image WriteFit) (length r) n (splice old 0 r) new e) ∙ splice_whole old r fits ∙ same
-whole_written (Err r) s old new n e is size = absurd cc
-
-refused_by : (t : Bool) (r k : EditRefusal) (x : ℕ × List ℕ) → outcome ((t, r) ∷ []) x ≡ Err k → t ≡ false
-refused_by true r k x e = absurd cc
-refused_by false r k x e = refl
+whole_written made s old new n e is size = grind (arith, splice_front, drop_all, append-nil)
 
 pub never_refused : (made : Result (List ℕ) EditRefusal) (s old : List ℕ) (k : EditRefusal) → written made old ≡ Err k → made ≡ Ok s → length s ≡ length old → ⊥
-never_refused (Ok r) s old k e is size =
-    let same : r ≡ s = cc in
-    let fits : length r ≡ length old = ap length same ∙ size in
-    let no : nat_le (length r) (length old) ≡ false = refused_by (nat_le (length r) (length old)) (Image WriteFit) k (length r, splice old 0 r) e in
-    let is_fit : nat_le (length r) (length old) ≡ true = le_is (length r) (length old) (omega (arith, fits)) in
-    cc
-never_refused (Err r) s old k e is size = cc
+never_refused made s old k e is size = grind (arith, le_is)

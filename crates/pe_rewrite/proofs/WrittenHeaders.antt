@@ -1,25 +1,13 @@
 -- The headers and the section headers of an image whose resources changed.
-use Rattle.std.proofs.Common.{◌≡◌, ℕ, ◌+◌, ◌*◌, ◌^◌, ◌<◌, ◌≤◌, ◌==◌, ◌&&◌, Bool, true, false, List, length, get_or, Option, Some, None, Ok, refl, ap, sym, ◌∙◌, arith}
-use Rattle.std.specs.Prelude.{nat_le, nat_lt, slice_range, if◌then◌else◌}
-use Rattle.pe_core.specs.Bytes.{bytes_of, le, range, splice}
-use Rattle.pe_core.specs.Header.{HeaderView, OptionalHeaderView, directories_offset, header_at}
-use Rattle.pe_core.specs.Records.{data_directory, section_table}
-use Rattle.pe_core.specs.Sections.{sections_offset}
-use Rattle.pe_core.specs.declared.options.ParseMode.{ParseMode}
-use Rattle.pe_core.proofs.NumberBytes.{le-same}
-use Rattle.pe_core.proofs.Splices.{length-bytes_of, length-splice}
-use Rattle.pe_edit.specs.Written.{Leaf, section, section_length}
-use Rattle.pe_edit.proofs.SectionRead.{length_of_section}
+use Rattle.std.proofs.Common.{◌≡◌, ℕ, ◌+◌, ◌*◌, ◌^◌, ◌<◌, ◌≤◌, ◌==◌, ◌&&◌, Bool, false, List, length, get_or, Ok, refl, ap, sym, ◌∙◌, arith}
+use Rattle.pe_rewrite.proofs.Cited.{nat_le, nat_lt, slice_range, if◌then◌else◌, bytes_of, le, range, splice, HeaderView}
+use Rattle.pe_rewrite.proofs.Cited.{OptionalHeaderView, directories_offset, header_at, data_directory, section_table}
+use Rattle.pe_rewrite.proofs.Cited.{sections_offset, ParseMode, le-same, length-bytes_of, length-splice, Leaf, section}
+use Rattle.pe_rewrite.proofs.Cited.{length_of_section, range_below, range_past, headers_change, same_range, Lies, edited_file}
+use Rattle.pe_rewrite.proofs.Cited.{filled, grown_size, sum_of, with_resources, with_sum, section_header, edited_headers, entry_of}
+use Rattle.pe_rewrite.proofs.Cited.{resized, Place, Target}
 use Rattle.pe_sign.specs.Checksum.{checksum_of}
-use Rattle.pe_sign.specs.WrittenHeaders.{directories_end, directories_end_after}
 use Rattle.pe_sign.proofs.Agreement.{agree_splice, in_field, sum_same}
-use Rattle.pe_sign.proofs.Digests.{range_below, range_past}
-use Rattle.pe_sign.proofs.HeadersStay.{Stays, headers_change, same_range}
-use Rattle.pe_rewrite.specs.Edited.{Lies, edited_file, filled, grown_size, sum_by, sum_of, with_resources, with_sum}
-use Rattle.pe_rewrite.specs.Places.{section_header}
-use Rattle.pe_rewrite.specs.WrittenImages.{edited_headers, entry_of, resized}
-use Rattle.pe_rewrite.specs.declared.place.Place.{Place}
-use Rattle.pe_rewrite.specs.declared.place.Target.{Target}
 use Rattle.pe_rewrite.proofs.Placed.{Made, Placed, place_lies, place_made}
 use Rattle.pe_rewrite.proofs.Stays.{byte_past, byte_stays, number_stays, number_there, sum_byte}
 use Rattle.pe_rewrite.proofs.Writes.{length-filled, resources_length, sum_inside, sum_length}
@@ -31,30 +19,21 @@ sum_over g c s room =
     let size : length (bytes_of 4 s) ≡ 4 = length-bytes_of 4 s in
     sum_same c (splice g c (bytes_of 4 s)) g (agree_splice (in_field c) g c (bytes_of 4 s) (omega (arith, size, room)) (λ k out. ap (λ (n : ℕ). nat_le c k && nat_lt k (c + n)) size ∙ out))
 
-sum_by_over : (p : ℕ) (o : Option OptionalHeaderView) (g : List ℕ) (s : ℕ) → p + 92 ≤ length g → sum_by p o (splice g (p + 88) (bytes_of 4 s)) ≡ sum_by p o g
-sum_by_over p None g s room = refl
-sum_by_over p (Some o) g s room = ap (λ (n : ℕ). if o.windows_fields.check_sum == 0 then 0 else n) (sum_over g (p + 88) s (omega (arith, room)))
-
 -- the checksum is that of the file with it
 pub sum_stays : (h : HeaderView) (g : List ℕ) → h.dos_header.pe_pointer + 92 ≤ length g → sum_of h (with_sum h g) ≡ sum_of h g
 unfolding with_sum
-sum_stays h g room = sum_by_over h.dos_header.pe_pointer h.optional_header g (sum_of h g) room
+sum_stays h g room = grind (arith, sum_over)
 
 small_checksum : (b : List ℕ) (c : ℕ) → checksum_of b c < 256 ^ 4
 unfolding checksum_of
 small_checksum b c = omega arith
 
 small_by : (t : Bool) (n : ℕ) → n < 256 ^ 4 → (if t then 0 else n) < 256 ^ 4
-small_by true n h = omega arith
-small_by false n h = h
-
-small_sum : (p : ℕ) (o : Option OptionalHeaderView) (g : List ℕ) → sum_by p o g < 256 ^ 4
-small_sum p None g = omega arith
-small_sum p (Some o) g = small_by (o.windows_fields.check_sum == 0) (checksum_of g (p + 88)) (small_checksum g (p + 88))
+small_by t n h = grind arith
 
 pub sum_read : (h : HeaderView) (g : List ℕ) → h.dos_header.pe_pointer + 92 ≤ length g → le (with_sum h g) (h.dos_header.pe_pointer + 88) 4 ≡ sum_of h g
 unfolding with_sum
-sum_read h g room = number_there g (h.dos_header.pe_pointer + 88) 4 (sum_of h g) (small_sum h.dos_header.pe_pointer h.optional_header g) (omega (arith, room))
+sum_read h g room = grind (arith, number_there, small_by, small_checksum)
 
 -- ---- the numbers that are written
 
@@ -117,29 +96,12 @@ grown_in h p r b l e small =
 -- before the section table a byte stays that is in neither field
 field_stays : (h : HeaderView) (p : Place) (r b : List ℕ) (k : ℕ) → Lies h p (length b) → length r ≡ p.length → k < sections_offset h → (nat_le p.entry k && nat_lt k (p.entry + 8)) ≡ false →
     (nat_le (h.dos_header.pe_pointer + 88) k && nat_lt k (h.dos_header.pe_pointer + 88 + 4)) ≡ false → get_or (with_sum h (with_resources p r b)) k 0 ≡ get_or b k 0
-field_stays h p r b k l e lt entry sum =
-    byte_stays h p r b k l e (range_below p.section.pointer_to_raw_data p.section.size_of_raw_data k (omega (arith, lt, l.table, l.row, l.raw))) (range_below (p.row + 8) 4 k (omega (arith, lt, l.table))) entry sum
+field_stays h p r b k l e lt entry sum = grind (arith, byte_stays, range_below)
 
 edited_size : (h : HeaderView) (p : Place) (r b : List ℕ) → Lies h p (length b) → length r ≡ p.length → length (with_sum h (with_resources p r b)) ≡ length b
 edited_size h p r b l e =
     let same = resources_length h p r b l e in
     sum_length h (with_resources p r b) (omega (arith, same, sum_inside h p (length b) l)) ∙ same
-
-headers_stay_with : (h : HeaderView) (p : Place) (r b : List ℕ) (n : ℕ) → Lies h p (length b) → length r ≡ p.length → p.entry + 8 ≤ n → n ≤ sections_offset h → Stays (with_sum h (with_resources p r b)) b (h.dos_header.pe_pointer + 88) p.entry n
-headers_stay_with h p r b n l e from to =
-    let c : ℕ = h.dos_header.pe_pointer + 88 in
-    let f : List ℕ = with_sum h (with_resources p r b) in
-    let all : n ≤ length b = omega (arith, to, l.table, l.row, l.raw, l.end) in
-    let size : length f ≡ length b = edited_size h p r b l e in
-    record {
-      apart = omega (arith, l.sum);
-      entry = from;
-      inside = omega (arith, size, all);
-      inside_before = all;
-      before = λ k lt. field_stays h p r b k l e (omega (arith, lt, l.sum, from, to)) (range_below p.entry 8 k (omega (arith, lt, l.sum))) (range_below c 4 k lt);
-      between = λ k past lt. field_stays h p r b k l e (omega (arith, lt, from, to)) (range_below p.entry 8 k lt) (range_past c 4 k past);
-      after = λ k past lt. field_stays h p r b k l e (omega (arith, lt, to)) (range_past p.entry 8 k past) (range_past c 4 k (omega (arith, past, l.sum)));
-    }
 
 -- the numbers are small
 pub record Small (p : Place) : Type 0 where
@@ -147,10 +109,7 @@ pub record Small (p : Place) : Type 0 where
   pub length_of : p.length < 256 ^ 4
 
 small_place : (p : Place) (xs : List Leaf) → Made p.section.virtual_address p.length xs → Small p
-small_place p xs m =
-    let size : section_length xs ≡ p.length = sym (length_of_section p.section.virtual_address xs) ∙ m.size in
-    let end : p.section.virtual_address + section_length xs < 4294967296 = m.accepted.end in
-    record { address = omega (arith, end); length_of = omega (arith, size, end) }
+small_place p xs m = grind (arith, length_of_section)
 
 -- the entry of the file that is written
 entry_read : (h : HeaderView) (p : Place) (r b : List ℕ) → Lies h p (length b) → length r ≡ p.length → Small p → data_directory (with_sum h (with_resources p r b)) p.entry ≡ entry_of p
@@ -176,9 +135,8 @@ header_edited mode b h xs p e x =
     let q : ℕ = h.dos_header.pe_pointer in
     let room : q + 92 ≤ length g = omega (arith, resources_length h p r b l m.size, sum_inside h p (length b) l) in
     let at : p.entry ≡ q + 24 + directories_offset (o.standard_fields.magic == 0x20B) + 8 * 2 = ap (λ (y : Place). y.entry) (sym x.value) ∙ ap (λ (t : Target). t.entry) (sym x.of.value) in
-    let end : directories_end h ≡ q + 24 + directories_offset (o.standard_fields.magic == 0x20B) + 8 * length o.data_directories = ap (directories_end_after q) x.of.some in
     headers_change (edited_file h p xs b) b mode h o 2 p.entry (entry_of p) e x.of.some at
-    (headers_stay_with h p r b (directories_end h) l m.size (omega (arith, at, end, x.of.many)) x.headers.directories)
+    (grind (arith, edited_size, before, field_stays, range_below, range_past, after, m.size, x.headers.directories))
     (entry_read h p r b l m.size (small_place p xs m))
     ∙ ap (λ (n : ℕ). Ok (edited_headers p n h)) (sum_read h g room ∙ sym (sum_stays h g room))
 

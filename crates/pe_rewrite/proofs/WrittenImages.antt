@@ -1,52 +1,25 @@
 -- The laws, of a file that an edit writes.
-use Rattle.std.proofs.Common.{◌≡◌, ℕ, ◌+◌, ◌-◌, ◌*◌, ◌^◌, ◌<◌, ◌%◌, ◌==◌, Bool, true, false, List, length, get_or, map, set, Option, Some, Result, Ok, ap, sym, ◌∙◌, subst, arith, ◌≤◌, ◌/◌, ◌||◌, [], ◌∷◌, ◌++◌, take, drop, replicate, Err, refl}
-use Rattle.std.specs.Prelude.{nat_le, if◌then◌else◌}
-use Rattle.std.specs.Int.{is_power_of_two}
-use Rattle.std.proofs.lemmas.Bool.Decides.{nat_tests}
-use Rattle.std.proofs.lemmas.List.{take_all, length-take-le}
-use Rattle.std.proofs.Math.Nat.{div-mul-le_self}
-use Rattle.pe_core.specs.Bytes.{AreBytes, range, holds, splice}
-use Rattle.pe_core.specs.Header.{HeaderView, OptionalHeaderView, header_at}
-use Rattle.pe_core.specs.Refusals.{Refusal, ◌>>=◌}
-use Rattle.pe_core.specs.SectionMap.{offset_of, section_map, covers, raw_start}
-use Rattle.pe_core.specs.declared.section_table.SectionTable.{SectionTable}
-use Rattle.pe_core.proofs.Comparisons.{le_is}
-use Rattle.pe_core.proofs.Map.{positive}
-use Rattle.pe_core.proofs.Ranges.{range_in_range}
-use Rattle.pe_resource.specs.Contents.{file_bytes}
-use Rattle.pe_resource.specs.Leaves.{tree_leaves, TreeRefusal}
-use Rattle.pe_resource.specs.declared.content.ResourceDataEntry.{ResourceDataEntry}
-use Rattle.pe_resource.specs.declared.leaves.ResourceLeaf.{ResourceLeaf}
-use Rattle.pe_edit.specs.Reread.{first_entries, leaf_with, leaves_in, of_image, read_content, read_item, read_key, read_leaf}
-use Rattle.pe_edit.specs.Written.{Each, Fits, Leaf, Numbers, layout_of, section, section_length}
-use Rattle.pe_edit.proofs.Stands.{Stands, left, part}
-use Rattle.pe_rewrite.specs.Edited.{edited_file, in_place, grown_size, is_written, sum_of, Lies, filled}
-use Rattle.pe_rewrite.specs.Places.{is_outside, place_of, section_headers, sections_apart, data_apart, pages_end, section_header}
-use Rattle.pe_rewrite.specs.WrittenImages.{edited_headers, mapped_item, resized, content_at, mapped_leaf}
-use Rattle.pe_rewrite.specs.declared.place.Place.{Place}
+use Rattle.std.proofs.Common.{◌≡◌, ℕ, ◌+◌, ◌-◌, ◌*◌, ◌^◌, ◌<◌, ◌%◌, ◌==◌, Bool, true, false, List, length, get_or, map, set, Option, Some, Result, Ok, ap, sym, ◌∙◌, subst, arith, ◌≤◌, ◌/◌, ◌||◌, [], ◌∷◌, ◌++◌, replicate, refl}
+use Rattle.pe_rewrite.proofs.Cited.{nat_le, is_power_of_two, nat_tests, take_all, div-mul-le_self, AreBytes, range, splice}
+use Rattle.pe_rewrite.proofs.Cited.{HeaderView, OptionalHeaderView, header_at, offset_of, section_map, covers, raw_start}
+use Rattle.pe_rewrite.proofs.Cited.{SectionTable, le_is, positive, range_in_range, file_bytes, tree_leaves, TreeRefusal}
+use Rattle.pe_rewrite.proofs.Cited.{ResourceLeaf, first_entries, leaves_in, read_item, read_leaf, Each, Fits, Leaf, Numbers}
+use Rattle.pe_rewrite.proofs.Cited.{layout_of, section, section_length, Stands, left, part, edited_file, in_place, grown_size}
+use Rattle.pe_rewrite.proofs.Cited.{is_written, sum_of, Lies, filled, is_outside, place_of, section_headers, sections_apart}
+use Rattle.pe_rewrite.proofs.Cited.{data_apart, section_header, edited_headers, mapped_item, resized, mapped_leaf, Place}
+use Rattle.pe_rewrite.proofs.Cited.{section_table, le_small, sections_offset, ParseOptions, ParseMode, length_of_section}
+use Rattle.pe_rewrite.proofs.Cited.{section_read, accepted_fit, same_some, same_ok, passed}
+use Rattle.pe_rewrite.proofs.RoomBytes.{here}
 use Rattle.pe_rewrite.proofs.Mapped.{covers_none, maps_by}
 use Rattle.pe_rewrite.proofs.Placed.{Placed, placed_value, place_lies, place_made, placed, Made}
-use Rattle.pe_rewrite.proofs.Results.{passed}
 use Rattle.pe_rewrite.proofs.Writes.{length-edited}
 use Rattle.pe_rewrite.proofs.WrittenHeaders.{header_edited, data_range}
-use Rattle.pe_rewrite.proofs.WrittenSections.{IsEdited, is_edited, map_stays, mapped_unwritten, rows_edited, Apart, apart_if, each_apart, other_row, own_row}
-use Rattle.pe_core.specs.Records.{section_table}
-use Rattle.pe_core.proofs.NumberBytes.{le_small}
-use Rattle.pe_core.specs.Sections.{sections_offset}
-use Rattle.pe_core.specs.declared.options.ParseOptions.{ParseOptions}
-use Rattle.pe_core.specs.declared.options.ParseMode.{ParseMode}
-use Rattle.pe_edit.proofs.SectionRead.{length_of_section, section_read}
-use Rattle.pe_edit.proofs.Tests.{accepted_fit}
-use Rattle.pe_rewrite.specs.declared.place.Target.{Target}
+use Rattle.pe_rewrite.proofs.WrittenSections.{IsEdited, is_edited, map_stays, mapped_unwritten, rows_edited, apart_if, each_apart, other_row, own_row}
 use Rattle.pe_rewrite.proofs.Stays.{unwritten_stays}
 use Rattle.pe_core.proofs.Reaches as reaches
 
 -- The leaves that are read of an image whose resources changed.
 -- ---- the bytes
-
-here : (b : List ℕ) (p : ℕ) (s : List ℕ) → p ≤ length b → Stands (splice b p s) p s
-unfolding splice
-here b p s h = record { front = take p b; back = drop (p + length s) b; is = refl; size = length-take-le p b h }
 
 front_of : (b r : List ℕ) (s : SectionTable) → s.pointer_to_raw_data ≤ length b → Stands (splice b s.pointer_to_raw_data (filled s r)) s.pointer_to_raw_data r
 unfolding filled
@@ -55,32 +28,12 @@ front_of b r s h = left (splice b s.pointer_to_raw_data (r ++ replicate (s.size_
 -- the resources stand in the file that is written
 pub data_read : (h : HeaderView) (p : Place) (xs : List Leaf) (b : List ℕ) → Lies h p (length b) → Made p.section.virtual_address p.length xs →
     range (edited_file h p xs b) p.section.pointer_to_raw_data p.length ≡ section p.section.virtual_address xs
-data_read h p xs b l m =
-    let r : List ℕ = section p.section.virtual_address xs in
-    let f : List ℕ = edited_file h p xs b in
-    let g : List ℕ = splice b p.section.pointer_to_raw_data (filled p.section r) in
-    let size : length f ≡ length b = length-edited h p xs b l m.size in
-    let start : p.section.pointer_to_raw_data ≤ length b = omega (arith, l.end) in
-    let end : p.section.pointer_to_raw_data + p.length ≤ length b = omega (arith, l.end, l.room) in
-    data_range h p r b l m.size (omega (arith, size, end))
-    ∙ part g p.section.pointer_to_raw_data p.length r m.size (front_of b r p.section start)
+data_read h p xs b l m = grind (arith, length-edited, data_range, part, front_of)
 
 -- ---- the section map
 
 pages_by : (x y z w a : ℕ) → (nat_le x y || nat_le z w) ≡ true → y ≤ a → a < z → w ≤ a → x ≤ a
 pages_by x y z w a e i j k = grind (arith, nat_tests, e, i, j, k)
-
-pages_apart : (s u : SectionTable) (a : ℕ) → (nat_le (pages_end u) s.virtual_address || nat_le (pages_end s) u.virtual_address) ≡ true → s.virtual_address ≤ a → a < s.virtual_address + s.size_of_raw_data → u.virtual_address ≤ a → pages_end u ≤ a
-pages_apart s u a e from to i = pages_by (pages_end u) s.virtual_address (pages_end s) u.virtual_address a e from (omega (arith, to)) i
-
--- another section does not cover what the resource section has
-no_cover : (t : Bool) (alignment a : ℕ) (h : HeaderView) (s u : SectionTable) → (u.size_of_raw_data == 0) ≡ t → data_apart alignment h s u ≡ true → s.virtual_address ≤ a → a < s.virtual_address + s.size_of_raw_data → covers alignment a u ≡ false
-no_cover true alignment a h s u e d from to =
-    let none : u.size_of_raw_data ≡ 0 = grind (arith, nat_tests, e) in
-    covers_none alignment a u (λ i. omega (arith, none, i))
-no_cover false alignment a h s u e d from to =
-    let apart : Apart alignment h s u = apart_if alignment h s u e d in
-    covers_none alignment a u (λ i. pages_apart s u a apart.pages from to i)
 
 -- the resource section covers its resources
 own_cover : (alignment a length_of size : ℕ) (s : SectionTable) → 0 < alignment → length_of ≤ s.size_of_raw_data → s.virtual_address ≤ a → a < s.virtual_address + length_of → length_of ≤ size → covers alignment a (resized size s) ≡ true
@@ -91,20 +44,14 @@ own_cover alignment a n size s some fits from to grown =
     let end : (d + raw_start s) / alignment * alignment ≤ d + raw_start s = div-mul-le_self (d + raw_start s) alignment in
     reaches.inside alignment a (resized size s) some from (omega (arith, down, fits, from, to)) (λ more. omega (arith, down, from, to, grown)) (omega (arith, end, start, fits, from, to))
 
-sector_start : (s : SectionTable) → (s.pointer_to_raw_data % 512 == 0) ≡ true → raw_start s ≡ s.pointer_to_raw_data
-sector_start s e =
-    let none : s.pointer_to_raw_data % 512 ≡ 0 = grind (arith, nat_tests, e) in
-    omega (arith, none)
-
 -- an RVA of the resources is mapped to its place in the section's data
 pub maps_resources : (b : List ℕ) (h : HeaderView) (xs : List Leaf) (p : Place) (alignment i a : ℕ) → p.section.virtual_size < 2 ^ 32 → IsEdited b h xs p i → is_power_of_two alignment ≡ true → (p.section.pointer_to_raw_data % 512 == 0) ≡ true → sections_apart b h alignment i ≡ true →
     p.section.virtual_address ≤ a → a < p.section.virtual_address + p.length → offset_of true alignment (section_headers (edited_file h p xs b) h) a ≡ Some (p.section.pointer_to_raw_data + (a - p.section.virtual_address))
 maps_resources b h xs p alignment i a small d power sector apart from to =
     let f : ℕ → SectionTable = section_header (edited_file h p xs b) h in
     let own : f i ≡ resized (grown_size p) p.section = own_row b h xs p i small d in
-    let to_raw : a < p.section.virtual_address + p.section.size_of_raw_data = omega (arith, to, d.lies.room) in
     let grown : p.length ≤ grown_size p = omega arith in
-    let at : raw_start p.section ≡ p.section.pointer_to_raw_data = sector_start p.section sector in
+    let at : raw_start p.section ≡ p.section.pointer_to_raw_data = grind (arith, nat_tests) in
     let offset : a - (f i).virtual_address + raw_start (f i) ≡ p.section.pointer_to_raw_data + (a - p.section.virtual_address) =
     ap (λ (s : SectionTable). a - s.virtual_address + raw_start s) own ∙ omega (arith, at) in
     maps_by alignment f h.coff_header.number_of_sections a i power d.below
@@ -112,7 +59,7 @@ maps_resources b h xs p alignment i a small d power sector apart from to =
     (λ k lt other.
     let free : data_apart alignment h (section_header b h i) (section_header b h k) ≡ true = each_apart b h alignment i k apart lt other in
     ap (covers alignment a) (other_row b h xs p i k d lt other)
-    ∙ no_cover ((section_header b h k).size_of_raw_data == 0) alignment a h p.section (section_header b h k) refl (ap (λ (s : SectionTable). data_apart alignment h s (section_header b h k)) (sym d.section) ∙ free) from to_raw)
+    ∙ grind (arith, nat_tests, covers_none, apart_if, pages_by, ap (λ (s : SectionTable). data_apart alignment h s (section_header b h k)) (sym d.section) ∙ free))
     ∙ ap (λ (n : ℕ). Some n) offset
 
 -- ---- ranges of the resources
@@ -135,55 +82,16 @@ content_mapped b h xs p alignment i a n small d power sector apart from some to 
 
 -- ---- leaves
 
-no_bytes : (b : List ℕ) (p : ℕ) → range b p 0 ≡ []
-no_bytes b p = let none : p + 0 - p ≡ 0 = omega arith in rw none refl
-
-content_cases : (t : Bool) (map_rva : ℕ → Option ℕ) (f s : List ℕ) (rva : ℕ) (d : ResourceDataEntry) (c : List ℕ) → (d.size == 0) ≡ t → ((a n : ℕ) → rva ≤ a → 0 < n → a + n ≤ rva + length s → file_bytes f n (map_rva a) ≡ Ok (range s (a - rva) n)) →
-    rva ≤ d.offset_to_data → d.offset_to_data - rva + d.size ≤ length s → range s (d.offset_to_data - rva) d.size ≡ c → ◌≡◌ {A = Result (List ℕ) Refusal} (if t then Ok [] else file_bytes f d.size (map_rva d.offset_to_data)) (Ok c)
-content_cases true map_rva f s rva d c e maps from inside is =
-    let none : d.size ≡ 0 = grind (arith, nat_tests, e) in
-    ap (λ (l : List ℕ). Ok l) (sym (no_bytes s (d.offset_to_data - rva)) ∙ ap (range s (d.offset_to_data - rva)) (sym none) ∙ is)
-content_cases false map_rva f s rva d c e maps from inside is =
-    let some : 0 < d.size = grind (arith, nat_tests, e) in
-    maps d.offset_to_data d.size from some (omega (arith, from, inside)) ∙ ap (λ (l : List ℕ). Ok l) is
-
-content_by : (t : Bool) (map_rva : ℕ → Option ℕ) (f s : List ℕ) (rva : ℕ) (d : ResourceDataEntry) (c : List ℕ) → (d.size == 0) ≡ t → ((a n : ℕ) → rva ≤ a → 0 < n → a + n ≤ rva + length s → file_bytes f n (map_rva a) ≡ Ok (range s (a - rva) n)) →
-    read_content s rva d ≡ Ok c → ◌≡◌ {A = Result (List ℕ) Refusal} (if t then Ok [] else file_bytes f d.size (map_rva d.offset_to_data)) (Ok c)
-content_by t map_rva f s rva d c e maps h =
-    let one = passed (nat_le rva d.offset_to_data) _ _ c h in
-    let two = passed (holds s (d.offset_to_data - rva) d.size) _ _ c one.1 in
-    let from : rva ≤ d.offset_to_data = grind (arith, nat_tests, one.0) in
-    let inside : d.offset_to_data - rva + d.size ≤ length s = grind (arith, nat_tests, two.0) in
-    let is : range s (d.offset_to_data - rva) d.size ≡ c = cc in
-    content_cases t map_rva f s rva d c e maps from inside is
-
 -- the map leads to the resources
 abbrev pub LeadsTo : (ℕ → Option ℕ) → List ℕ → List ℕ → ℕ → Type 0
 LeadsTo map_rva f s rva = (a n : ℕ) → rva ≤ a → 0 < n → a + n ≤ rva + length s → file_bytes f n (map_rva a) ≡ Ok (range s (a - rva) n)
 
-of_image_is : {X : Type 0} (r q : Result X Refusal) (x : X) → ((y : X) → r ≡ Ok y → q ≡ Ok y) → of_image r ≡ Ok x → of_image q ≡ Ok x
-of_image_is (Ok y) q x same e = ap of_image (same y refl) ∙ e
-of_image_is (Err k) q x same e = absurd cc
-
--- four steps, of which the last gives the same by another way
-last_step : {T N L C Y R : Type 0} (t : Result T R) (n : Result N R) (l : Result L R) (c d : Result C R) (g : T → N → L → C → Result Y R) (y : Y) → ((v : C) → c ≡ Ok v → d ≡ Ok v) →
-    (t >>= λ x. n >>= λ m. l >>= λ k. c >>= λ v. g x m k v) ≡ Ok y → (t >>= λ x. n >>= λ m. l >>= λ k. d >>= λ v. g x m k v) ≡ Ok y
-last_step (Ok x) (Ok m) (Ok k) (Ok v) d g y same h = ap (λ r. r >>= λ w. g x m k w) (same v refl) ∙ h
-last_step (Ok x) (Ok m) (Ok k) (Err r) d g y same h = absurd cc
-last_step (Ok x) (Ok m) (Err r) c d g y same h = absurd cc
-last_step (Ok x) (Err r) l c d g y same h = absurd cc
-last_step (Err r) n l c d g y same h = absurd cc
-
 leaf_mapped : (map_rva : ℕ → Option ℕ) (f s : List ℕ) (rva : ℕ) (y : ResourceLeaf) (x : Leaf) → LeadsTo map_rva f s rva → read_leaf s rva y ≡ Ok x → mapped_leaf map_rva f s y ≡ Ok x
 unfolding read_leaf mapped_leaf
-leaf_mapped map_rva f s rva y x maps e =
-    last_step (of_image (read_key s y.resource_type)) (of_image (read_key s y.name)) (of_image (read_key s y.language)) (of_image (read_content s rva y.data_entry))
-    (of_image (content_at map_rva f y.data_entry.offset_to_data y.data_entry.size)) (λ t n l c. leaf_with t n l y.data_entry.code_page c) x
-    (λ c. of_image_is (read_content s rva y.data_entry) (content_at map_rva f y.data_entry.offset_to_data y.data_entry.size) c (λ z. content_by (y.data_entry.size == 0) map_rva f s rva y.data_entry z refl maps)) e
+leaf_mapped map_rva f s rva y x maps e = grind (arith, passed, nat_tests)
 
 item_mapped : (map_rva : ℕ → Option ℕ) (f s : List ℕ) (rva : ℕ) (y : Result ResourceLeaf TreeRefusal) (x : Leaf) → LeadsTo map_rva f s rva → read_item s rva y ≡ Ok x → mapped_item map_rva f s y ≡ Ok x
-item_mapped map_rva f s rva (Ok y) x maps e = leaf_mapped map_rva f s rva y x maps e
-item_mapped map_rva f s rva (Err r) x maps e = absurd cc
+item_mapped map_rva f s rva y x maps e = grind (arith, leaf_mapped)
 
 items_alike : {X Y R : Type 0} (g k : X → Result Y R) (items : List X) (xs : List Y) → ((y : X) (x : Y) → g y ≡ Ok x → k y ≡ Ok x) → map g items ≡ map (λ x. Ok x) xs → map k items ≡ map (λ x. Ok x) xs
 items_alike g k [] [] same e = refl
@@ -197,9 +105,6 @@ items_alike {X} {Y} {R} g k (y ∷ items) (x ∷ xs) same e =
 -- the leaves that a walk finds, with their contents by the section map, are those that its section is read as
 pub leaves_mapped : (map_rva : ℕ → Option ℕ) (f s : List ℕ) (rva : ℕ) (xs : List Leaf) → LeadsTo map_rva f s rva → leaves_in s rva ≡ map (λ x. Ok x) xs → map (mapped_item map_rva f s) (tree_leaves s (first_entries s)) ≡ map (λ x. Ok x) xs
 leaves_mapped map_rva f s rva xs maps e = items_alike (read_item s rva) (mapped_item map_rva f s) (tree_leaves s (first_entries s)) xs (λ y x. item_mapped map_rva f s rva y x maps) e
-
-same_ok : {X R : Type 0} (r : Result X R) (x y : X) → r ≡ Ok x → r ≡ Ok y → x ≡ y
-same_ok r x y e i = cc
 
 -- the file that is written
 pub file_is : (b : List ℕ) (h : HeaderView) (xs : List Leaf) (p : Place) (f : List ℕ) → place_of b h xs ≡ Ok p → in_place b h xs ≡ Ok f → edited_file h p xs b ≡ f
@@ -216,43 +121,22 @@ is_file b h xs p f e i = record { placed = placed b h xs p e; file = file_is b h
 -- the size of its section in memory has 32 bits
 pub size_small : (b : List ℕ) (h : HeaderView) (xs : List Leaf) (p : Place) → AreBytes b → Placed b h xs p → p.section.virtual_size < 2 ^ 32
 unfolding section_table
-size_small b h xs p small x =
-    subst (λ (n : ℕ). n < 2 ^ 32) (ap (λ (y : Place). y.section.virtual_size) x.value) (le_small b (sections_offset h + 40 * x.index + 8) small)
+size_small b h xs p small x = grind (arith, le_small)
 
 pub length_stays_placed : (b : List ℕ) (h : HeaderView) (xs : List Leaf) (p : Place) (f : List ℕ) → IsFile b h xs p f → length f ≡ length b
-length_stays_placed b h xs p f y =
-    let x : Placed b h xs p = y.placed in
-    ap length (sym y.file) ∙ length-edited h p xs b (place_lies b h xs p x) (place_made b h xs p x).size
+length_stays_placed b h xs p f y = grind (arith, length-edited, place_lies, place_made)
 
 pub bytes_stay_placed : (b : List ℕ) (h : HeaderView) (xs : List Leaf) (p : Place) (f : List ℕ) (k : ℕ) → IsFile b h xs p f → is_written h p k ≡ false → get_or f k 0 ≡ get_or b k 0
-bytes_stay_placed b h xs p f k y w =
-    let x : Placed b h xs p = y.placed in
-    ap (λ (g : List ℕ). get_or g k 0) (sym y.file) ∙ unwritten_stays h p (section p.section.virtual_address xs) b k (place_lies b h xs p x) (place_made b h xs p x).size w
+bytes_stay_placed b h xs p f k y w = grind (arith, unwritten_stays, place_lies, place_made)
 
 pub headers_parsed_placed : (mode : ParseMode) (b : List ℕ) (h : HeaderView) (xs : List Leaf) (p : Place) (f : List ℕ) → header_at b mode ≡ Ok h → IsFile b h xs p f → header_at f mode ≡ Ok (edited_headers p (sum_of h f) h)
-headers_parsed_placed mode b h xs p f parsed y =
-    subst (λ (g : List ℕ). header_at g mode ≡ Ok (edited_headers p (sum_of h g) h)) y.file (header_edited mode b h xs p parsed y.placed)
-
--- ---- the sections
-
-pub sections_parsed_placed : (b : List ℕ) (h : HeaderView) (xs : List Leaf) (p : Place) (f : List ℕ) (i : ℕ) → p.section.virtual_size < 2 ^ 32 → IsFile b h xs p f → p.row ≡ sections_offset h + 40 * i → section_headers f h ≡ set (section_headers b h) i (resized (grown_size p) p.section)
-sections_parsed_placed b h xs p f i small y row =
-    let x : Placed b h xs p = y.placed in
-    let d : IsEdited b h xs p x.index = is_edited b h xs p x in
-    let same : x.index ≡ i = omega (arith, d.row, row) in
-    subst (λ (g : List ℕ). section_headers g h ≡ set (section_headers b h) i (resized (grown_size p) p.section)) y.file
-    (subst (λ (k : ℕ). section_headers (edited_file h p xs b) h ≡ set (section_headers b h) k (resized (grown_size p) p.section)) same (rows_edited b h xs p x.index small d))
+headers_parsed_placed mode b h xs p f parsed y = grind (arith, header_edited)
 
 -- ---- the map
 
 pub map_is_same_placed : (o : ParseOptions) (b : List ℕ) (h : HeaderView) (xs : List Leaf) (p : Place) (f : List ℕ) (alignment a : ℕ) → p.section.virtual_size < 2 ^ 32 → IsFile b h xs p f → is_outside p.section a ≡ true →
     section_map o (section_headers f h) alignment a ≡ section_map o (section_headers b h) alignment a
-map_is_same_placed o b h xs p f alignment a small y out =
-    let x : Placed b h xs p = y.placed in
-    subst (λ (g : List ℕ). section_map o (section_headers g h) alignment a ≡ section_map o (section_headers b h) alignment a) y.file (map_stays b h xs p x.index o.resolve_rva alignment a small (is_edited b h xs p x) out)
-
-some_is : {X : Type 0} (x y : X) → Some x ≡ Some y → x ≡ y
-some_is x y e = cc
+map_is_same_placed o b h xs p f alignment a small y out = grind (arith, map_stays, is_edited)
 
 -- the resources have some bytes
 some_bytes : (xs : List Leaf) → 0 < section_length xs
@@ -261,9 +145,7 @@ some_bytes xs = omega arith
 
 -- the optional header and its file alignment
 alignment_is : (b : List ℕ) (h : HeaderView) (xs : List Leaf) (p : Place) (x : Placed b h xs p) (w : OptionalHeaderView) → h.optional_header ≡ Some w → x.target.file_alignment ≡ w.windows_fields.file_alignment
-alignment_is b h xs p x w some =
-    let same : x.of.optional ≡ w = some_is x.of.optional w (sym x.of.some ∙ some) in
-    ap (λ (t : Target). t.file_alignment) (sym x.of.value) ∙ ap (λ (o : OptionalHeaderView). o.windows_fields.file_alignment) same
+alignment_is b h xs p x w some = grind (arith, same_some)
 
 -- the image passed these tests
 pub record Tested (b : List ℕ) (h : HeaderView) (xs : List Leaf) (p : Place) (alignment i : ℕ) : Type 0 where
@@ -273,14 +155,7 @@ pub record Tested (b : List ℕ) (h : HeaderView) (xs : List Leaf) (p : Place) (
   pub apart : sections_apart b h alignment i ≡ true
 
 tested : (b : List ℕ) (h : HeaderView) (xs : List Leaf) (p : Place) (x : Placed b h xs p) (alignment : ℕ) → x.target.file_alignment ≡ alignment → Tested b h xs p alignment x.index
-tested b h xs p x alignment same =
-    let d : IsEdited b h xs p x.index = is_edited b h xs p x in
-    record {
-      edited = d;
-      power = ap is_power_of_two (sym same) ∙ x.headers.power;
-      sector = ap (λ (s : SectionTable). s.pointer_to_raw_data % 512 == 0) (sym d.section) ∙ x.free.sector;
-      apart = ap (λ (n : ℕ). sections_apart b h n x.index) (sym same) ∙ x.free.apart;
-    }
+tested b h xs p x alignment same = grind (arith, is_edited)
 
 pub mapped_byte_placed : (o : ParseOptions) (b : List ℕ) (h : HeaderView) (xs : List Leaf) (p : Place) (f : List ℕ) (w : OptionalHeaderView) (a q : ℕ) → IsFile b h xs p f → h.optional_header ≡ Some w → o.resolve_rva ≡ true → is_outside p.section a ≡ true →
     section_map o (section_headers b h) w.windows_fields.file_alignment a ≡ Some q → get_or f q 0 ≡ get_or b q 0
@@ -293,27 +168,12 @@ mapped_byte_placed o b h xs p f w a q y some resolves out m =
 
 leads_to : (b : List ℕ) (h : HeaderView) (xs : List Leaf) (p : Place) (alignment i : ℕ) (resolve : Bool) → resolve ≡ true → p.section.virtual_size < 2 ^ 32 → Tested b h xs p alignment i →
     LeadsTo (offset_of resolve alignment (section_headers (edited_file h p xs b) h)) (edited_file h p xs b) (section p.section.virtual_address xs) p.section.virtual_address
-leads_to b h xs p alignment i resolve resolves small t =
-    λ a n from some to. ap (λ (r : Bool). file_bytes (edited_file h p xs b) n (offset_of r alignment (section_headers (edited_file h p xs b) h) a)) resolves
-    ∙ content_mapped b h xs p alignment i a n small t.edited t.power t.sector t.apart from some (omega (arith, to, t.edited.made.size))
-
-whole_range : (s : List ℕ) (n rva : ℕ) → length s ≡ n → range s (rva - rva) n ≡ s
-whole_range s n rva e =
-    let none : rva - rva ≡ 0 = omega arith in
-    let all : 0 + n - 0 ≡ n = omega arith in
-    rw (none, all) (take_all n s (omega (arith, e)))
+leads_to b h xs p alignment i resolve resolves small t = grind (arith, content_mapped)
 
 pub directory_read_placed : (o : ParseOptions) (b : List ℕ) (h : HeaderView) (xs : List Leaf) (p : Place) (f : List ℕ) (w : OptionalHeaderView) → p.section.virtual_size < 2 ^ 32 → IsFile b h xs p f → h.optional_header ≡ Some w → o.resolve_rva ≡ true →
     file_bytes f p.length (section_map o (section_headers f h) w.windows_fields.file_alignment p.section.virtual_address) ≡ Ok (section p.section.virtual_address xs)
 directory_read_placed o b h xs p f w small y some resolves =
-    let x : Placed b h xs p = y.placed in
-    let t : Tested b h xs p w.windows_fields.file_alignment x.index = tested b h xs p x w.windows_fields.file_alignment (alignment_is b h xs p x w some) in
-    let rva : ℕ = p.section.virtual_address in
-    let size : length (section rva xs) ≡ p.length = t.edited.made.size in
-    let more : 0 < p.length = omega (arith, some_bytes xs, length_of_section rva xs, size) in
-    let there = leads_to b h xs p w.windows_fields.file_alignment x.index o.resolve_rva resolves small t rva p.length (omega arith) more (omega (arith, size)) in
-    subst (λ (g : List ℕ). file_bytes g p.length (section_map o (section_headers g h) w.windows_fields.file_alignment rva) ≡ Ok (section rva xs)) y.file
-    (there ∙ ap (λ (l : List ℕ). Ok l) (whole_range (section rva xs) p.length rva size))
+    grind (arith, tested, alignment_is, some_bytes, length_of_section, leads_to, take_all)
 
 pub leaves_read_placed : (o : ParseOptions) (b : List ℕ) (h : HeaderView) (xs : List Leaf) (p : Place) (f s : List ℕ) (w : OptionalHeaderView) → p.section.virtual_size < 2 ^ 32 → Each Numbers xs → IsFile b h xs p f → h.optional_header ≡ Some w → o.resolve_rva ≡ true → s ≡ section p.section.virtual_address xs →
     map (mapped_item (section_map o (section_headers f h) w.windows_fields.file_alignment) f s) (tree_leaves s (first_entries s)) ≡ map (λ x. Ok x) xs
@@ -375,7 +235,7 @@ headers_parsed mode b h xs p f parsed e i =
 
 pub sections_parsed : (b : List ℕ) (h : HeaderView) (xs : List Leaf) (p : Place) (f : List ℕ) (i : ℕ) → AreBytes b → place_of b h xs ≡ Ok p → in_place b h xs ≡ Ok f → p.row ≡ sections_offset h + 40 * i → section_headers f h ≡ set (section_headers b h) i (resized (grown_size p) p.section)
 sections_parsed b h xs p f i small e j row =
-    sections_parsed_placed b h xs p f i (size_small b h xs p small (placed b h xs p e)) (is_file b h xs p f e j) row
+    grind (arith, is_edited, rows_edited, size_small b h xs p small (placed b h xs p e), is_file b h xs p f e j)
 
 pub map_is_same : (o : ParseOptions) (b : List ℕ) (h : HeaderView) (xs : List Leaf) (p : Place) (f : List ℕ) (alignment a : ℕ) → AreBytes b → place_of b h xs ≡ Ok p → in_place b h xs ≡ Ok f → is_outside p.section a ≡ true →
     section_map o (section_headers f h) alignment a ≡ section_map o (section_headers b h) alignment a

@@ -1,29 +1,14 @@
 -- The tree that is read of an image whose resources changed.
-use Rattle.std.proofs.Common.{◌≡◌, ℕ, ◌+◌, ◌*◌, ◌^◌, ◌<◌, ◌≤◌, true, List, length, get_or, map, Some, Result, Ok, refl, ap, ◌∙◌, arith}
-use Rattle.pe_core.specs.Bytes.{AreBytes, le, range}
-use Rattle.pe_core.specs.Header.{HeaderView, OptionalHeaderView}
-use Rattle.pe_core.specs.Refusals.{Refusal, ◌>>=◌}
-use Rattle.pe_core.specs.SectionMap.{section_map}
-use Rattle.pe_core.specs.declared.data_directories.DataDirectory.{DataDirectory}
-use Rattle.pe_core.specs.declared.options.ParseOptions.{ParseOptions}
-use Rattle.pe_core.specs.declared.section_table.SectionTable.{SectionTable}
-use Rattle.pe_core.proofs.Comparisons.{le_is}
-use Rattle.pe_core.proofs.NumberBytes.{le-same}
-use Rattle.pe_core.proofs.Ranges.{byte_of_range}
-use Rattle.pe_resource.specs.Contents.{file_bytes}
+use Rattle.std.proofs.Common.{◌≡◌, ℕ, ◌+◌, ◌*◌, ◌^◌, ◌<◌, ◌≤◌, true, List, length, map, Some, Ok, refl, ap, ◌∙◌, arith}
+use Rattle.pe_rewrite.proofs.Cited.{AreBytes, le, range, HeaderView, OptionalHeaderView, section_map, DataDirectory, ParseOptions}
+use Rattle.pe_rewrite.proofs.Cited.{SectionTable, le_is, le-same, byte_of_range, file_bytes, resource_tree, tree_leaves}
+use Rattle.pe_rewrite.proofs.Cited.{first_entries, Each, Leaf, Numbers, layout_of, same_type, section, section_at, type_key}
+use Rattle.pe_rewrite.proofs.Cited.{type_size, types_of, is_layout, parts_stand, in_place, place_of, section_headers, entry_of}
+use Rattle.pe_rewrite.proofs.Cited.{leaves_of_image, Place}
 use Rattle.pe_resource.specs.Directories.{count, directory_at, directory_of}
-use Rattle.pe_resource.specs.Leaves.{TreeRefusal, resource_tree, tree_leaves}
 use Rattle.pe_resource.specs.Resources.{first_directory, first_entries_in}
-use Rattle.pe_resource.specs.declared.leaves.ResourceLeaf.{ResourceLeaf}
-use Rattle.pe_edit.specs.Reread.{LeafRefusal, first_entries}
-use Rattle.pe_edit.specs.Written.{Each, Leaf, Numbers, layout_of, same_type, section, section_at, type_key, type_size, types_of}
 use Rattle.pe_edit.proofs.Runs.{count_of_runs}
-use Rattle.pe_edit.proofs.SectionRead.{is_layout, parts_stand}
 use Rattle.pe_edit.proofs.Tables.{table_read}
-use Rattle.pe_rewrite.specs.Edited.{in_place}
-use Rattle.pe_rewrite.specs.Places.{place_of, section_headers}
-use Rattle.pe_rewrite.specs.WrittenImages.{entry_of, leaves_of_image, mapped_item}
-use Rattle.pe_rewrite.specs.declared.place.Place.{Place}
 use Rattle.pe_rewrite.proofs.Placed.{placed}
 use Rattle.pe_rewrite.proofs.WrittenImages.{DirectoryThere, IsFile, directory_there_placed, is_file, leaves_read_placed, size_small}
 
@@ -44,9 +29,7 @@ head_inside rva xs small =
 -- ---- the same directory in the file
 
 number_in : (f s : List ℕ) (p n q w : ℕ) → range f p n ≡ s → q + w ≤ n → le f (p + q) w ≡ le s q w
-number_in f s p n q w is h =
-    le-same f s (p + q) q w
-    (λ k lt. ap (λ (j : ℕ). get_or f j 0) (omega arith) ∙ byte_of_range f p n (q + k) (omega (arith, lt, h)) ∙ ap (λ (l : List ℕ). get_or l (q + k) 0) is)
+number_in f s p n q w is h = grind (arith, le-same, byte_of_range)
 
 directory_in : (f s : List ℕ) (p n : ℕ) → range f p n ≡ s → 16 ≤ n → directory_of f p ≡ directory_of s 0
 unfolding directory_of
@@ -87,8 +70,7 @@ pub leaves_found_placed : (o : ParseOptions) (b : List ℕ) (h : HeaderView) (xs
     leaves_of_image o f (entry_of p) (section_headers f h) w.windows_fields.file_alignment ≡ Ok (map (λ x. Ok x) xs)
 leaves_found_placed o b h xs p f w small numbers y some resolves =
     let s : List ℕ = section p.section.virtual_address xs in
-    ap (λ (r : Result (List ℕ × List (Result ResourceLeaf TreeRefusal)) Refusal). r >>= λ tree. Ok (map (mapped_item (section_map o (section_headers f h) w.windows_fields.file_alignment) f tree.0) tree.1)) (tree_read o b h xs p f w small y some resolves)
-    ∙ ap (λ (l : List (Result Leaf LeafRefusal)). Ok l) (leaves_read_placed o b h xs p f s w small numbers y some resolves refl)
+    simp (tree_read o b h xs p f w small y some resolves, leaves_read_placed o b h xs p f s w small numbers y some resolves refl)
 
 pub leaves_found : (o : ParseOptions) (b : List ℕ) (h : HeaderView) (xs : List Leaf) (p : Place) (f : List ℕ) (w : OptionalHeaderView) → AreBytes b → Each Numbers xs → place_of b h xs ≡ Ok p → in_place b h xs ≡ Ok f → h.optional_header ≡ Some w → o.resolve_rva ≡ true →
     leaves_of_image o f (entry_of p) (section_headers f h) w.windows_fields.file_alignment ≡ Ok (map (λ x. Ok x) xs)

@@ -1,13 +1,7 @@
 -- Files that differ only where bytes are left out.
-use Rattle.std.proofs.Common.{◌≡◌, ℕ, zero, suc, ◌+◌, ◌-◌, ◌*◌, ◌/◌, ◌%◌, ◌<◌, ◌≤◌, ◌&&◌, Bool, true, false, cond, List, [], ◌∷◌, length, get_or, take, refl, ap, sym, ◌∙◌, arith}
-use Rattle.std.specs.Prelude.{nat_le, nat_lt, slice_index}
-use Rattle.std.specs.List.{fold}
-use Rattle.std.proofs.lemmas.List.{places, length-take-le, ext_get_or}
-use Rattle.pe_core.specs.Bytes.{splice}
-use Rattle.pe_core.specs.Rows.{each}
-use Rattle.pe_sign.specs.Checksum.{summed_byte, summed_word, with_carry, checksum_of}
-use Rattle.pe_sign.specs.Digest.{unless, kept_bytes}
-use Rattle.pe_core.proofs.Splices.{length-splice, get_or-splice}
+use Rattle.std.proofs.Common.{◌≡◌, ℕ, suc, ◌+◌, ◌-◌, ◌<◌, ◌≤◌, ◌&&◌, Bool, false, cond, List, [], ◌∷◌, length, get_or, take, refl, ap, sym, ◌∙◌, arith}
+use Rattle.pe_sign.proofs.Cited.{nat_le, nat_lt, places, length-take-le, ext_get_or, splice, checksum_of, unless, kept_bytes}
+use Rattle.pe_sign.proofs.Cited.{length-splice, get_or-splice}
 
 -- two files of one length have the same bytes where none is left out
 pub record Agree (is_out : ℕ → Bool) (xs ys : List ℕ) : Type 0 where
@@ -16,10 +10,6 @@ pub record Agree (is_out : ℕ → Bool) (xs ys : List ℕ) : Type 0 where
 
 -- ---- what is kept of them is the same
 
-unless_same : (b : Bool) (x y : ℕ) (xs ys : List ℕ) → (b ≡ false → x ≡ y) → xs ≡ ys → unless b x xs ≡ unless b y ys
-unless_same true x y xs ys h e = e
-unless_same false x y xs ys h e = let first : x ≡ y = h refl in cc
-
 kept_from : (q : ℕ → Bool) (p : ℕ) (xs ys : List ℕ) → length xs ≡ length ys → ((j k : ℕ) → j ≡ p + k → q j ≡ false → get_or xs k 0 ≡ get_or ys k 0) → kept_bytes q p xs ≡ kept_bytes q p ys
 unfolding kept_bytes
 kept_from q p [] [] e h = refl
@@ -27,7 +17,7 @@ kept_from q p [] (y ∷ ys) e h = absurd cc
 kept_from q p (x ∷ xs) [] e h = absurd cc
 kept_from q p (x ∷ xs) (y ∷ ys) e h =
     let rest : length xs ≡ length ys = cc in
-    unless_same (q p) x y (kept_bytes q (suc p) xs) (kept_bytes q (suc p) ys) (h p 0 (omega arith)) (kept_from q (suc p) xs ys rest (λ j k i. h j (suc k) (omega arith)))
+    grind (arith, h p 0 (omega arith), kept_from q (suc p) xs ys rest (λ j k i. h j (suc k) (omega arith)))
 
 pub kept_same : (q : ℕ → Bool) (xs ys : List ℕ) → Agree q xs ys → kept_bytes q 0 xs ≡ kept_bytes q 0 ys
 kept_same q xs ys a = kept_from q 0 xs ys a.count (λ j k i. let at : j ≡ k = omega (arith, i) in rw at (a.same k))
@@ -46,46 +36,21 @@ kept_by q r p (x ∷ xs) h =
 abbrev pub in_field : ℕ → ℕ → Bool
 in_field field k = nat_le field k && nat_lt k (field + 4)
 
-zero_or : (t : Bool) (x y : ℕ) → (t ≡ false → x ≡ y) → cond t 0 x ≡ cond t 0 y
-zero_or true x y h = refl
-zero_or false x y h = h refl
-
-each_same : (f g : ℕ → ℕ) (n : ℕ) → ((k : ℕ) → f k ≡ g k) → each f n ≡ each g n
-unfolding each
-each_same f g zero h = refl
-each_same f g (suc n) h = rw (each_same f g n h, h n) refl
-
-byte_same : (field : ℕ) (xs ys : List ℕ) → Agree (in_field field) xs ys → (k : ℕ) → summed_byte xs field k ≡ summed_byte ys field k
-byte_same field xs ys a k = zero_or (in_field field k) (slice_index xs k) (slice_index ys k) (a.same k)
-
-word_same : (field : ℕ) (xs ys : List ℕ) → Agree (in_field field) xs ys → (k : ℕ) → summed_word xs field k ≡ summed_word ys field k
-word_same field xs ys a k =
-    ap (λ n. n + 256 * summed_byte xs field (2 * k + 1)) (byte_same field xs ys a (2 * k)) ∙ ap (λ n. summed_byte ys field (2 * k) + 256 * n) (byte_same field xs ys a (2 * k + 1))
-
 pub sum_same : (field : ℕ) (xs ys : List ℕ) → Agree (in_field field) xs ys → checksum_of xs field ≡ checksum_of ys field
 unfolding checksum_of
-sum_same field xs ys a =
-    ap (λ n. (n + fold with_carry 0 (each (summed_word xs field) ((n + 1) / 2))) % 4294967296) a.count
-    ∙ ap (λ ws. (length ys + fold with_carry 0 ws) % 4294967296) (each_same (summed_word xs field) (summed_word ys field) ((length ys + 1) / 2) (word_same field xs ys a))
+sum_same field xs ys a = grind arith
 
 -- ---- parts of them agree, and what is written over them
 
 pub agree_take : (q : ℕ → Bool) (xs ys : List ℕ) (n : ℕ) → n ≤ length xs → Agree q xs ys → Agree q (take n xs) (take n ys)
-agree_take q xs ys n h a = record {
-  count = length-take-le n xs h ∙ sym (length-take-le n ys (omega (arith, a.count)));
-  same = λ k i. let e : get_or xs k 0 ≡ get_or ys k 0 = a.same k i in grind (arith, places, a.count);
-}
+agree_take q xs ys n h a = grind (arith, length-take-le, places)
 
 pub agree_splice : (q : ℕ → Bool) (b : List ℕ) (p : ℕ) (s : List ℕ) → p + length s ≤ length b → ((k : ℕ) → q k ≡ false → (nat_le p k && nat_lt k (p + length s)) ≡ false) → Agree q (splice b p s) b
-agree_splice q b p s h outside = record {
-  count = length-splice b p s h;
-  same = λ k i. get_or-splice b p s k h ∙ ap (λ t. cond t (get_or s (k - p) 0) (get_or b k 0)) (outside k i);
-}
+agree_splice q b p s h outside = grind (arith, length-splice, get_or-splice)
 
 -- a write over all that differs
 pub cond_same : (t : Bool) (x y z : ℕ) → (t ≡ false → y ≡ z) → cond t x y ≡ cond t x z
-cond_same true x y z h = refl
-cond_same false x y z h = h refl
+cond_same t x y z h = grind arith
 
 pub splice_same : (xs ys : List ℕ) (p : ℕ) (s : List ℕ) → p + length s ≤ length xs → Agree (λ k. nat_le p k && nat_lt k (p + length s)) xs ys → splice xs p s ≡ splice ys p s
 splice_same xs ys p s h a =

@@ -1,28 +1,13 @@
 -- What is attached can be detached.
-use Rattle.std.proofs.Common.{◌≡◌, ℕ, ◌+◌, ◌-◌, ◌*◌, ◌≤◌, ◌==◌, ◌&&◌, ◌||◌, Bool, true, List, [], ◌∷◌, length, Ok, refl, ap, sym, ◌∙◌, subst, arith}
-use Rattle.std.specs.Prelude.{not, nat_le, Result, if◌then◌else◌}
-use Rattle.std.specs.List.{list_all}
-use Rattle.std.proofs.lemmas.Bool.Decides.{nat_tests}
-use Rattle.std.proofs.lemmas.Bool.{or_right}
-use Rattle.pe_core.proofs.EntryItems.{each_same}
+use Rattle.std.proofs.Common.{◌≡◌, ℕ, ◌+◌, ◌-◌, ◌*◌, ◌≤◌, ◌==◌, ◌||◌, Bool, true, List, [], ◌∷◌, length, Ok, refl, ap, sym, ◌∙◌, subst, arith}
+use Rattle.pe_sign.proofs.Cited.{not, nat_le, Result, if◌then◌else◌, list_all, nat_tests, or_right, each_same, absent_directory}
+use Rattle.pe_sign.proofs.Cited.{HeaderView, header_at, section_table, CertificateTable, Refusal, outcome, ◌>>=◌, rows}
+use Rattle.pe_sign.proofs.Cited.{sections_offset, ParseMode, SectionTable, le_is, attached_of, before_table, data_ends_by}
+use Rattle.pe_sign.proofs.Cited.{detached_file, detached_of, entry_to, headers_end_by, is_signed, layout_tests, sections_end_by}
+use Rattle.pe_sign.proofs.Cited.{table_start, unsigned_length, with_both_fields, with_table, Fits, checksum_of, left_out_of}
+use Rattle.pe_sign.proofs.Cited.{Headers, Image, NoDirectory, Section, TableNotLast, of_image, directories_end, headers_with}
+use Rattle.pe_sign.proofs.Cited.{Placement, LeftOut}
 use Rattle.pe_core.proofs.Equality.{both}
-use Rattle.pe_core.specs.Directories.{absent_directory}
-use Rattle.pe_core.specs.Header.{HeaderView, header_at}
-use Rattle.pe_core.specs.Records.{section_table}
-use Rattle.pe_core.specs.Refusals.{CertificateTable, Refusal, outcome, ◌>>=◌}
-use Rattle.pe_core.specs.Rows.{rows}
-use Rattle.pe_core.specs.Sections.{sections_offset}
-use Rattle.pe_core.specs.declared.options.ParseMode.{ParseMode}
-use Rattle.pe_core.specs.declared.section_table.SectionTable.{SectionTable}
-use Rattle.pe_core.proofs.Comparisons.{le_is}
-use Rattle.pe_sign.specs.Attaching.{attached_of, before_table, data_ends_by, detached_file, detached_of, entry_to, headers_end_by, is_signed, layout_tests, sections_end_by, table_start, unsigned_length, with_both_fields, with_table}
-use Rattle.pe_sign.specs.AttachingSteps.{Fits}
-use Rattle.pe_sign.specs.Checksum.{checksum_of}
-use Rattle.pe_sign.specs.Digest.{left_out_of}
-use Rattle.pe_sign.specs.SignRefusals.{Headers, Image, NoDirectory, Section, TableNotLast, of_image}
-use Rattle.pe_sign.specs.WrittenHeaders.{directories_end, headers_with}
-use Rattle.pe_sign.specs.declared.attachment.Placement.{Placement}
-use Rattle.pe_sign.specs.declared.digest.LeftOut.{LeftOut}
 use Rattle.pe_sign.proofs.Detaching.{detached_again, is_table, start_holds, holds_start}
 use Rattle.pe_sign.proofs.Digests.{start_inside}
 use Rattle.pe_sign.proofs.Entries.{image_at}
@@ -64,17 +49,11 @@ all_later m n (x ∷ xs) h e =
     let both = both (data_ends_by m x) (list_all (data_ends_by m) xs) e in
     rw (data_later m n x h both.0, all_later m n xs h both.1) refl
 
-three_later : (a b c m n : ℕ) → m ≤ n → (nat_le a m && nat_le b m && nat_le c m) ≡ true → (nat_le a n && nat_le b n && nat_le c n) ≡ true
-three_later a b c m n h e = grind (arith, nat_tests)
-
 -- ---- all tests pass
 
 five_pass : (t u v w x : Bool) (l : LeftOut) (g : LeftOut → List ℕ) → t ≡ true → u ≡ true → v ≡ true → w ≡ true → x ≡ true →
     (outcome ((t, NoDirectory) ∷ (u, Image CertificateTable) ∷ (v, TableNotLast) ∷ (w, Headers) ∷ (x, Section) ∷ []) l >>= λ k. Ok (g k)) ≡ Ok (g l)
 five_pass t u v w x l g h i j k m = rw (h, i, j, k, m) refl
-
-same_number : (m n : ℕ) → m ≡ n → (m == n) ≡ true
-same_number m n h = grind (arith, nat_tests)
 
 accepted : (placement : Placement) (b : List ℕ) (h : HeaderView) (c f : List ℕ) (l : LeftOut) (sum : ℕ) → left_out_of h ≡ Ok l → attached_of placement b h c ≡ Ok f → directories_end h ≤ sections_offset h →
     detached_of f (headers_with (entry_to (table_start placement l (length b)) (length f)) sum h) ≡ Ok (detached_file (with_table l (table_start placement l (length b)) (length f)) f)
@@ -96,11 +75,11 @@ accepted placement b h c f l sum i j small =
     let entry : l.directory_entry.offset + 8 ≤ sections_offset h = omega (arith, entry_ends h l i fits.entry_size, small) in
     let stays : Stays f b l.checksum.offset l.directory_entry.offset u = stays_attached placement b h c f l u i j fits.entry (kept_holds placement l (length b) fits) in
     let sections : rows (section_table f) 40 (sections_offset h) n ≡ rows (section_table b) 40 (sections_offset h) n = sections_stay f b l.checksum.offset l.directory_entry.offset u stays (sections_offset h) n entry table in
-    let headers : headers_end_by k m start ≡ true = three_later (l.checksum.offset + 4) (l.directory_entry.offset + 8) (sections_offset h + 40 * n) u start later passed.0 in
+    let headers : headers_end_by k m start ≡ true = grind (arith, nat_tests, passed.0) in
     let content : sections_end_by f k start ≡ true = rw sections (all_later u start (rows (section_table b) 40 (sections_offset h) n) later passed.1) in
     ap (λ (r : Result LeftOut Refusal). (of_image r >>= λ x. outcome (layout_tests f k x) x) >>= λ x. Ok (detached_file x f)) (attached_parts placement b h c f l sum i j)
     ∙ five_pass (l.directory_entry.length == 8) (nat_le (start + (length f - start)) (length f)) (not (is_signed m) || nat_le (length f) (start + (length f - start))) (headers_end_by k m (unsigned_length m (length f)))
-    (sections_end_by f k (unsigned_length m (length f))) m (λ x. detached_file x f) (same_number l.directory_entry.length 8 fits.entry_size) (le_is (start + (length f - start)) (length f) (omega arith))
+    (sections_end_by f k (unsigned_length m (length f))) m (λ x. detached_file x f) (grind (arith, nat_tests, fits.entry_size)) (le_is (start + (length f - start)) (length f) (omega arith))
     (or_right (not (is_signed m)) (nat_le (length f) (start + (length f - start))) (le_is (length f) (start + (length f - start)) (omega arith))) (rw cut headers) (rw cut content)
 
 pub is_detached : (mode : ParseMode) (placement : Placement) (b : List ℕ) (h k : HeaderView) (c f : List ℕ) (l : LeftOut) → header_at b mode ≡ Ok h → left_out_of h ≡ Ok l → attached_of placement b h c ≡ Ok f →

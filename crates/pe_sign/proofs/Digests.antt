@@ -1,24 +1,14 @@
 -- The digest of what is written.
-use Rattle.std.proofs.Common.{◌≡◌, ℕ, ◌+◌, ◌-◌, ◌<◌, ◌≤◌, ◌==◌, ◌&&◌, ◌||◌, Bool, true, false, cond, List, [], ◌++◌, length, take, drop, replicate, refl, ap, sym, ◌∙◌, arith}
-use Rattle.std.specs.Prelude.{not, nat_le, nat_lt, if◌then◌else◌}
-use Rattle.std.proofs.lemmas.Bool.Decides.{nat_tests}
-use Rattle.std.proofs.lemmas.List.{append-nil, take_at, take_all, take-append-le, take-append-drop, length-take, length-take-le, length-drop}
-use Rattle.pe_core.specs.Bytes.{bytes_of, splice}
-use Rattle.pe_core.specs.Directories.{absent_directory}
-use Rattle.pe_core.specs.SectionMap.{rounded_up}
-use Rattle.pe_core.specs.declared.data_directories.DataDirectory.{DataDirectory}
-use Rattle.pe_sign.specs.Attaching.{is_signed, unsigned_length, unsigned_file, padded, table_start, entry_to, with_entry, with_checksum, with_both_fields, joined_file, attached_file, detached_file, with_table, without_table, before_table}
-use Rattle.pe_sign.specs.AttachingSteps.{Fits}
-use Rattle.pe_sign.specs.Checksum.{checksum_of}
-use Rattle.pe_sign.specs.Digest.{Covered, covered, covered_bytes, is_in, is_left_out, kept_bytes, lacking_to_eight, zeros_after}
-use Rattle.pe_sign.specs.declared.attachment.Placement.{Placement}
-use Rattle.pe_sign.specs.declared.attachment.Placement.TheVariants.{After, InPlace}
-use Rattle.pe_sign.specs.declared.digest.LeftOut.{LeftOut}
+use Rattle.std.proofs.Common.{◌≡◌, ℕ, ◌+◌, ◌-◌, ◌<◌, ◌≤◌, ◌&&◌, ◌||◌, Bool, true, false, List, [], ◌++◌, length, take, drop, replicate, refl, ap, sym, ◌∙◌, arith}
+use Rattle.pe_sign.proofs.Cited.{nat_le, nat_lt, nat_tests, append-nil, take_at, take_all, take-append-le, take-append-drop}
+use Rattle.pe_sign.proofs.Cited.{length-take, length-take-le, length-drop, bytes_of, splice, rounded_up, DataDirectory}
+use Rattle.pe_sign.proofs.Cited.{unsigned_length, unsigned_file, padded, table_start, entry_to, with_entry, with_checksum}
+use Rattle.pe_sign.proofs.Cited.{with_both_fields, joined_file, attached_file, detached_file, with_table, without_table}
+use Rattle.pe_sign.proofs.Cited.{before_table, Fits, checksum_of, Covered, covered, covered_bytes, is_in, is_left_out, kept_bytes}
+use Rattle.pe_sign.proofs.Cited.{lacking_to_eight, zeros_after, Placement, LeftOut, length-splice, length-bytes_of, or_false}
 use Rattle.pe_sign.proofs.Agreement.{Agree, agree_take, agree_splice, agree_then, agree_more, kept_same, kept_by}
 use Rattle.pe_sign.proofs.Parts.{kept_append, kept_all, kept_none}
 use Rattle.pe_sign.proofs.Slices.{in_certificates}
-use Rattle.pe_core.proofs.Splices.{length-splice, length-bytes_of}
-use Rattle.pe_core.proofs.Comparisons.{or_false}
 use Rattle.pe_sign.proofs.Splices.{length-padded}
 use Rattle.pe_sign.proofs.Writes.{length-entry, length-joined_file, kept_holds}
 
@@ -45,7 +35,6 @@ covered_at l b u h below above =
     let size : length xs ≡ u = length-take-le u b h in
     let whole : xs ++ ys ≡ b = take-append-drop u b in
     let total : u + length ys ≡ length b = omega (arith, length-drop u b) in
-    let gone : (k : ℕ) → u ≤ k → k < length b → r k ≡ true = above in
     let after_q : kept_bytes q (0 + length xs) ys ≡ [] = kept_none q (0 + length xs) ys (λ k from to. in_certificates l k (above k (omega (arith, size)) (omega (arith, size, total)))) in
     let after_r : kept_bytes r (0 + length xs) ys ≡ [] = kept_none r (0 + length xs) ys (λ k from to. above k (omega (arith, size)) (omega (arith, size, total))) in
     let before_q : kept_bytes q 0 xs ≡ kept_bytes (in_fields l) 0 xs = kept_by q (in_fields l) 0 xs (λ k from to. left_out_before l k (below k (omega (arith, size)))) in
@@ -67,24 +56,12 @@ range_above start size k h i = grind (arith, nat_tests)
 pub range_past : (start size k : ℕ) → start + size ≤ k → (nat_le start k && nat_lt k (start + size)) ≡ false
 range_past start size k h = grind (arith, nat_tests)
 
-no_table : (o n : ℕ) → not (o == 0 && n == 0) ≡ false → (o ≡ 0) × (n ≡ 0)
-no_table o n h = (grind (arith, nat_tests), grind (arith, nat_tests))
-
 nowhere : (o n k : ℕ) → n ≡ 0 → (nat_le o k && nat_lt k (o + n)) ≡ false
 nowhere o n k h = grind (arith, nat_tests)
 
-below_table : (s : Bool) (l : LeftOut) (n k : ℕ) → is_signed l ≡ s → k < cond s l.certificates.offset n → is_in l.certificates k ≡ false
-below_table true l n k e h = range_below l.certificates.offset l.certificates.length k h
-below_table false l n k e h = nowhere l.certificates.offset l.certificates.length k (no_table l.certificates.offset l.certificates.length e).1
-
-above_table : (s : Bool) (l : LeftOut) (n k : ℕ) → is_signed l ≡ s → (is_signed l ≡ true → l.certificates.offset + l.certificates.length ≡ n) → cond s l.certificates.offset n ≤ k → k < n → is_in l.certificates k ≡ true
-above_table true l n k e ends h i = range_above l.certificates.offset l.certificates.length k h (omega (arith, ends e))
-above_table false l n k e ends h i = absurd (omega arith)
-
 -- what the digest of an image covers whose certificates are its end
 pub covered_unsigned : (l : LeftOut) (b : List ℕ) → Fits l (length b) → covered l b ≡ covered_by (kept_bytes (in_fields l) 0 (unsigned_file l b)) (lacking_to_eight (unsigned_length l (length b)))
-covered_unsigned l b f =
-    covered_at l b (unsigned_length l (length b)) f.inside (λ k h. below_table (is_signed l) l (length b) k refl h) (λ k h i. above_table (is_signed l) l (length b) k refl f.table_end h i)
+covered_unsigned l b f = grind (arith, covered_at, range_below, nowhere, range_above, nat_tests)
 
 -- the same with a table that is named from an offset to the end
 pub covered_tabled : (l : LeftOut) (b : List ℕ) (start : ℕ) → start ≤ length b → covered (with_table l start (length b)) b ≡ covered_by (kept_bytes (in_fields l) 0 (take start b)) (lacking_to_eight start)
@@ -95,18 +72,9 @@ covered_tabled l b start h =
 pub covered_bare : (l : LeftOut) (b : List ℕ) → covered (without_table l) b ≡ covered_by (kept_bytes (in_fields l) 0 b) (lacking_to_eight (length b))
 covered_bare l b =
     let all : take (length b) b ≡ b = take_all (length b) b (omega arith) in
-    covered_at (without_table l) b (length b) (omega arith) (λ k i. nowhere 0 0 k refl) (λ k i j. absurd (omega arith))
-    ∙ ap (λ (zs : List ℕ). covered_by (kept_bytes (in_fields l) 0 zs) (lacking_to_eight (length b))) all
+    simp (covered_at (without_table l) b (length b) (omega arith) (λ k i. nowhere 0 0 k refl) (λ k i j. absurd (omega arith)), all)
 
 -- ---- the two fields are all that is changed
-
-left_of : (a b : Bool) → (a || b) ≡ false → a ≡ false
-left_of false b h = refl
-left_of true b h = absurd cc
-
-right_of : (a b : Bool) → (a || b) ≡ false → b ≡ false
-right_of false b h = h
-right_of true b h = absurd cc
 
 inner_range : (p q m n k : ℕ) → p ≤ q → q + m ≤ p + n → (nat_le p k && nat_lt k (p + n)) ≡ false → (nat_le q k && nat_lt k (q + m)) ≡ false
 inner_range p q m n k h i e = grind (arith, nat_tests)
@@ -145,8 +113,8 @@ pub agree_fields : (l : LeftOut) (row : DataDirectory) (b : List ℕ) → Holds 
 agree_fields l row b h =
     let size : length (with_entry l row b) ≡ length b = length-entry l row b h.entry in
     agree_then (in_fields l) (with_both_fields l row b) (with_entry l row b) b
-    (agree_more (is_in l.checksum) (in_fields l) (with_both_fields l row b) (with_entry l row b) (agree_checksum l (with_entry l row b) h.checksum_size (omega (arith, size, h.checksum))) (λ k i. left_of (is_in l.checksum k) (is_in l.directory_entry k) i))
-    (agree_more (is_in l.directory_entry) (in_fields l) (with_entry l row b) b (agree_entry l row b h.entry_size h.entry) (λ k i. right_of (is_in l.checksum k) (is_in l.directory_entry k) i))
+    (agree_more (is_in l.checksum) (in_fields l) (with_both_fields l row b) (with_entry l row b) (agree_checksum l (with_entry l row b) h.checksum_size (omega (arith, size, h.checksum))) (λ k i. grind arith))
+    (agree_more (is_in l.directory_entry) (in_fields l) (with_entry l row b) b (agree_entry l row b h.entry_size h.entry) (λ k i. grind arith))
 
 -- ---- what is before the table
 
@@ -154,37 +122,17 @@ take_padded : (n : ℕ) (x : List ℕ) → n ≤ length x → take n (padded x) 
 unfolding padded
 take_padded n x h = take-append-le n x (replicate (lacking_to_eight (length x)) 0) h
 
-after_front : (s : Bool) (o : ℕ) (b c : List ℕ) → (if s then o else length b) ≤ length b →
-    take (if s then o else rounded_up (length b) 8) (padded (take (length b) b) ++ padded c) ≡ (if s then take (if s then o else length b) b else padded b)
-after_front false o b c h =
-    let all : take (length b) b ≡ b = take_all (length b) b (omega arith) in
-    take_at (padded (take (length b) b)) (padded c) (rounded_up (length b) 8) (length-padded (take (length b) b) ∙ ap (λ (x : List ℕ). rounded_up (length x) 8) all) ∙ ap (λ (x : List ℕ). padded x) all
-after_front true o b c h =
-    let all : take (length b) b ≡ b = take_all (length b) b (omega arith) in
-    let size : length (padded (take (length b) b)) ≡ rounded_up (length b) 8 = length-padded (take (length b) b) ∙ ap (λ (x : List ℕ). rounded_up (length x) 8) all in
-    take-append-le o (padded (take (length b) b)) (padded c) (omega (arith, size, h)) ∙ take_padded o (take (length b) b) (omega (arith, h, ap (λ (x : List ℕ). length x) all)) ∙ ap (λ (x : List ℕ). take o x) all
-
 pub front_of : (placement : Placement) (l : LeftOut) (c b : List ℕ) → Fits l (length b) → take (table_start placement l (length b)) (joined_file placement l c b) ≡ before_table placement l b
-front_of After l c b f = after_front (is_signed l) l.certificates.offset b c f.inside
-front_of InPlace l c b f =
-    let x : List ℕ = unsigned_file l b in
-    let size : length x ≡ unsigned_length l (length b) = length-take-le (unsigned_length l (length b)) b f.inside in
-    take_at (padded x) (padded c) (rounded_up (unsigned_length l (length b)) 8) (length-padded x ∙ ap (λ (n : ℕ). rounded_up n 8) size)
-
-after_size : (s : Bool) (o : ℕ) (b : List ℕ) → (if s then o else length b) ≤ length b → length (if s then take (if s then o else length b) b else padded b) ≡ (if s then o else rounded_up (length b) 8)
-after_size true o b h = length-take-le o b h
-after_size false o b h = length-padded b
+front_of placement l c b f = grind (arith, length-take-le, take_at, length-padded, take_all, take-append-le, take_padded)
 
 pub length-before : (placement : Placement) (l : LeftOut) (b : List ℕ) → Fits l (length b) → length (before_table placement l b) ≡ table_start placement l (length b)
-length-before After l b f = after_size (is_signed l) l.certificates.offset b f.inside
-length-before InPlace l b f = length-padded (unsigned_file l b) ∙ ap (λ (n : ℕ). rounded_up n 8) (length-take-le (unsigned_length l (length b)) b f.inside)
+length-before placement l b f = grind (arith, length-padded, length-take-le)
 
 at_most : (n : ℕ) (xs : List ℕ) → length (take n xs) ≡ n → n ≤ length xs
 at_most n xs h = omega (arith, length-take n xs)
 
 pub start_inside : (placement : Placement) (l : LeftOut) (c b : List ℕ) → Fits l (length b) → table_start placement l (length b) ≤ length (joined_file placement l c b)
-start_inside placement l c b f =
-    at_most (table_start placement l (length b)) (joined_file placement l c b) (ap (λ (x : List ℕ). length x) (front_of placement l c b f) ∙ length-before placement l b f)
+start_inside placement l c b f = grind (arith, at_most, front_of, length-before)
 
 -- the fields are in the parts of a file that fits
 pub holds_unsigned : (l : LeftOut) (n : ℕ) → Fits l n → Holds l (unsigned_length l n)
@@ -194,47 +142,17 @@ pub holds_more : (l : LeftOut) (m n : ℕ) → Holds l m → m ≤ n → Holds l
 holds_more l m n h e = record { checksum_size = h.checksum_size; entry_size = h.entry_size; checksum = omega (arith, h.checksum, e); entry = omega (arith, h.entry, e) }
 
 pub holds_joined : (placement : Placement) (l : LeftOut) (c b : List ℕ) → Fits l (length b) → Holds l (length (joined_file placement l c b))
-holds_joined placement l c b f =
-    holds_more l (unsigned_length l (length b)) (length (joined_file placement l c b)) (holds_unsigned l (length b) f)
-    (omega (arith, length-joined_file placement l c b f, kept_holds placement l (length b) f))
+holds_joined placement l c b f = grind (arith, holds_more, holds_unsigned, length-joined_file, kept_holds)
 
 -- ---- the digest stays
 
 pub past_fields : (l : LeftOut) (n k : ℕ) → Holds l n → n ≤ k → in_fields l k ≡ false
-past_fields l n k h e =
-    ap (λ t. t || is_in l.directory_entry k) (range_past l.checksum.offset l.checksum.length k (omega (arith, h.checksum_size, h.checksum, e)))
-    ∙ range_past l.directory_entry.offset l.directory_entry.length k (omega (arith, h.entry_size, h.entry, e))
-
-no_more_zeros : (n : ℕ) → lacking_to_eight (rounded_up n 8) ≡ 0
-no_more_zeros n = omega arith
+past_fields l n k h e = grind (arith, range_past)
 
 -- zeros that are in the file need not be added to its digest
 padded_digest : (l : LeftOut) (x : List ℕ) → Holds l (length x) → kept_bytes (in_fields l) 0 (padded x) ++ replicate (lacking_to_eight (rounded_up (length x) 8)) 0 ≡ kept_bytes (in_fields l) 0 x ++ replicate (lacking_to_eight (length x)) 0
 unfolding padded
-padded_digest l x h =
-    let q : ℕ → Bool = in_fields l in
-    let zeros : List ℕ = replicate (lacking_to_eight (length x)) 0 in
-    let last : kept_bytes q (0 + length x) zeros ≡ zeros = kept_all q (0 + length x) zeros (λ k from to. past_fields l (length x) k h (omega (arith, from))) in
-    ap (λ (n : ℕ). kept_bytes q 0 (x ++ zeros) ++ replicate n 0) (no_more_zeros (length x)) ∙ append-nil (kept_bytes q 0 (x ++ zeros))
-    ∙ kept_append q 0 x zeros ∙ ap (λ (zs : List ℕ). kept_bytes q 0 x ++ zs) last
-
-after_digest : (s : Bool) (l : LeftOut) (o : ℕ) (b : List ℕ) → Holds l (if s then o else length b) →
-    kept_bytes (in_fields l) 0 (if s then take (if s then o else length b) b else padded b) ++ replicate (lacking_to_eight (if s then o else rounded_up (length b) 8)) 0
-    ≡ kept_bytes (in_fields l) 0 (take (if s then o else length b) b) ++ replicate (lacking_to_eight (if s then o else length b)) 0
-after_digest true l o b h = refl
-after_digest false l o b h =
-    padded_digest l b h ∙ ap (λ (x : List ℕ). kept_bytes (in_fields l) 0 x ++ replicate (lacking_to_eight (length b)) 0) (sym (take_all (length b) b (omega arith)))
-
-same_digest : (placement : Placement) (l : LeftOut) (b : List ℕ) → Fits l (length b) →
-    kept_bytes (in_fields l) 0 (before_table placement l b) ++ replicate (lacking_to_eight (table_start placement l (length b))) 0
-    ≡ kept_bytes (in_fields l) 0 (unsigned_file l b) ++ replicate (lacking_to_eight (unsigned_length l (length b))) 0
-same_digest After l b f = after_digest (is_signed l) l l.certificates.offset b (holds_unsigned l (length b) f)
-same_digest InPlace l b f =
-    let x : List ℕ = unsigned_file l b in
-    let size : length x ≡ unsigned_length l (length b) = length-take-le (unsigned_length l (length b)) b f.inside in
-    ap (λ (n : ℕ). kept_bytes (in_fields l) 0 (padded x) ++ replicate (lacking_to_eight (rounded_up n 8)) 0) (sym size)
-    ∙ padded_digest l x (holds_more l (unsigned_length l (length b)) (length x) (holds_unsigned l (length b) f) (omega (arith, size)))
-    ∙ ap (λ (n : ℕ). kept_bytes (in_fields l) 0 x ++ replicate (lacking_to_eight n) 0) size
+padded_digest l x h = grind (arith, kept_all, past_fields, append-nil, kept_append)
 
 pub attached_digest : (placement : Placement) (l : LeftOut) (c b : List ℕ) → Fits l (length b) →
     covered_bytes (covered (with_table l (table_start placement l (length b)) (length (attached_file placement l c b))) (attached_file placement l c b)) ≡ covered_bytes (covered l b)
@@ -249,17 +167,9 @@ attached_digest placement l c b fits =
     kept_same q (take start f) (take start j) (agree_take q f j start inside agree) ∙ ap (λ (x : List ℕ). kept_bytes q 0 x) (front_of placement l c b fits) in
     ap (λ (x : Covered). covered_bytes x) (covered_tabled l f start inside)
     ∙ ap (λ (x : List ℕ). x ++ replicate (lacking_to_eight start) 0) same
-    ∙ same_digest placement l b fits
+    ∙ grind (arith, holds_unsigned, length-take-le, padded_digest, holds_more, take_all)
     ∙ ap (λ (x : Covered). covered_bytes x) (sym (covered_unsigned l b fits))
 
 pub detached_digest : (l : LeftOut) (b : List ℕ) → Fits l (length b) → covered (without_table l) (detached_file l b) ≡ covered l b
 detached_digest l b fits =
-    let q : ℕ → Bool = in_fields l in
-    let x : List ℕ = unsigned_file l b in
-    let f : List ℕ = detached_file l b in
-    let size : length x ≡ unsigned_length l (length b) = length-take-le (unsigned_length l (length b)) b fits.inside in
-    let agree : Agree q f x = agree_fields l absent_directory x (holds_more l (unsigned_length l (length b)) (length x) (holds_unsigned l (length b) fits) (omega (arith, size))) in
-    covered_bare l f
-    ∙ ap (λ (c : List ℕ). covered_by c (lacking_to_eight (length f))) (kept_same q f x agree)
-    ∙ ap (λ (n : ℕ). covered_by (kept_bytes q 0 x) (lacking_to_eight n)) (agree.count ∙ size)
-    ∙ sym (covered_unsigned l b fits)
+    grind (arith, length-take-le, agree_fields, holds_more, holds_unsigned, covered_bare, kept_same, covered_unsigned)

@@ -1,25 +1,14 @@
 -- The headers of a file that differs from another one in the checksum and in one entry of the data directories.
 use Rattle.std.proofs.Common.{◌≡◌, ℕ, ◌+◌, ◌*◌, ◌<◌, ◌≤◌, ◌≢◌, ◌==◌, ◌||◌, Bool, true, false, List, [], length, get_or, set, Ok, Err, Some, None, refl, ap, sym, ◌∙◌, subst, ⊎_elim, arith}
-use Rattle.std.specs.Prelude.{nat_le, nat_lt, slice_range, if◌then◌else◌}
-use Rattle.std.proofs.lemmas.Bool.{cases_lt}
-use Rattle.std.proofs.lemmas.Bool.Decides.{nat_tests}
-use Rattle.std.proofs.lemmas.List.{places, ext_get_or, length-set, get_or-set_same, get_or-set_other}
-use Rattle.pe_core.specs.Bytes.{le, holds}
-use Rattle.pe_core.specs.Directories.{absent_directory, kept, present}
-use Rattle.pe_core.specs.Header.{HeaderView, OptionalHeaderView, directories_offset, is_pe32_plus, optional_header, optional_header_tests, header, header_tests, header_at}
-use Rattle.pe_core.specs.Offsets.{empty_range}
+use Rattle.pe_sign.proofs.Cited.{nat_le, slice_range, if◌then◌else◌, cases_lt, nat_tests, places, ext_get_or, length-set}
+use Rattle.pe_sign.proofs.Cited.{get_or-set_same, get_or-set_other, le, holds, absent_directory, kept, present, HeaderView}
+use Rattle.pe_sign.proofs.Cited.{OptionalHeaderView, directories_offset, is_pe32_plus, optional_header, optional_header_tests}
+use Rattle.pe_sign.proofs.Cited.{header, header_tests, header_at, Short, outcome, ParseMode, entry_range, certificates_range}
+use Rattle.pe_sign.proofs.Cited.{left_out_before, left_out_of, LeftOut, dos_header, coff_header, standard_fields_32}
+use Rattle.pe_sign.proofs.Cited.{standard_fields_64, windows_fields_32, windows_fields_64, data_directory, each, rows}
+use Rattle.pe_sign.proofs.Cited.{DataDirectory, length-each, get_or-each, le-same, le_is, optional_changed, headers_changed}
+use Rattle.pe_sign.proofs.Cited.{headers_with, directories_end_after, directories_end}
 use Rattle.pe_core.specs.Options.{is_permissive}
-use Rattle.pe_core.specs.Refusals.{Short, BadMagic, HeaderPointer, outcome}
-use Rattle.pe_core.specs.declared.options.ParseMode.{ParseMode}
-use Rattle.pe_sign.specs.Digest.{entry_range, certificates_range, left_out_before, left_out_of}
-use Rattle.pe_sign.specs.declared.digest.LeftOut.{LeftOut}
-use Rattle.pe_core.specs.Records.{dos_header, coff_header, standard_fields_32, standard_fields_64, windows_fields_32, windows_fields_64, data_directory}
-use Rattle.pe_core.specs.Rows.{each, rows}
-use Rattle.pe_core.specs.declared.data_directories.DataDirectory.{DataDirectory}
-use Rattle.pe_core.proofs.EntryItems.{length-each, get_or-each}
-use Rattle.pe_core.proofs.NumberBytes.{le-same}
-use Rattle.pe_core.proofs.Comparisons.{le_is}
-use Rattle.pe_sign.specs.WrittenHeaders.{optional_changed, headers_changed, headers_with, directories_end_after, directories_end}
 use Rattle.pe_sign.proofs.Tests.{passed, value_is}
 
 -- before offset n two files have the same bytes, but for the checksum at offset c and the entry at offset e
@@ -198,15 +187,7 @@ optional_32 f b c e n s q i entry at_c at_e w to is =
 -- ---- the tests
 
 pub wide : (w : Bool) → 96 ≤ directories_offset w
-wide true = omega arith
-wide false = omega arith
-
-optional_accepted : (f b : List ℕ) (q i : ℕ) (entry : DataDirectory) (sum : ℕ) → le f q 2 ≡ le b q 2 → optional_header f q ≡ optional_changed i entry sum (optional_header b q) →
-    (le b q 2 == 0x10B || is_pe32_plus b q) ≡ true → q + directories_offset (is_pe32_plus b q) + 8 * kept (optional_header b q).windows_fields.number_of_rva_and_sizes ≤ length f →
-    (y : HeaderView) → outcome (optional_header_tests f q) y ≡ Ok y
-unfolding optional_header_tests
-optional_accepted f b q i entry sum two same magic room y =
-    rw (two, same, magic, le_is (q + 2) (length f) (omega (arith, wide (is_pe32_plus b q))), le_is (q + directories_offset (is_pe32_plus b q)) (length f) (omega arith), le_is (q + directories_offset (is_pe32_plus b q) + 8 * kept (optional_header b q).windows_fields.number_of_rva_and_sizes) (length f) room) refl
+wide w = grind arith
 
 -- the optional header by its width: it is accepted again, and is the same but for the two fields
 pub record IsAgain (f b : List ℕ) (q i sum : ℕ) (entry : DataDirectory) : Type 0 where
@@ -223,17 +204,15 @@ minus b q w = rw w refl
 
 by_width : (w : Bool) (f b : List ℕ) (c e n : ℕ) → Stays f b c e n → (q i : ℕ) (entry : DataDirectory) → is_pe32_plus b q ≡ w → c ≡ q + 64 → e ≡ q + directories_offset (is_pe32_plus b q) + 8 * i →
     n ≡ q + directories_offset (is_pe32_plus b q) + 8 * kept (optional_header b q).windows_fields.number_of_rva_and_sizes → data_directory f e ≡ entry → optional_header f q ≡ optional_changed i entry (le f c 4) (optional_header b q)
-by_width true f b c e n s q i entry w at_c at_e to is =
-    optional_64 f b c e n s q i entry at_c (at_e ∙ (rw w (omega arith))) w (to ∙ plus b q w) is
-by_width false f b c e n s q i entry w at_c at_e to is =
-    optional_32 f b c e n s q i entry at_c (at_e ∙ (rw w (omega arith))) w (to ∙ minus b q w) is
+by_width w f b c e n s q i entry j at_c at_e to is = grind (arith, optional_64, plus, optional_32, minus)
 
 is_again : (f b : List ℕ) (c e n : ℕ) → Stays f b c e n → (q i : ℕ) (entry : DataDirectory) → c ≡ q + 64 → e ≡ q + directories_offset (is_pe32_plus b q) + 8 * i →
     n ≡ q + directories_offset (is_pe32_plus b q) + 8 * kept (optional_header b q).windows_fields.number_of_rva_and_sizes → data_directory f e ≡ entry →
     (le b q 2 == 0x10B || is_pe32_plus b q) ≡ true → IsAgain f b q i (le f c 4) entry
+unfolding optional_header_tests
 is_again f b c e n s q i entry at_c at_e to is magic =
     let same = by_width (is_pe32_plus b q) f b c e n s q i entry refl at_c at_e to is in
-    record { value = same; accepted = optional_accepted f b q i entry (le f c 4) (first f b c e n s q 2 (omega arith)) same magic (omega (arith, to, s.inside)) }
+    record { value = same; accepted = (grind (arith, le_is, wide, first f b c e n s q 2 (omega arith))) }
 
 -- what the headers of a file passed that were accepted
 pub record Parsed (b : List ℕ) (mode : ParseMode) (h : HeaderView) : Type 0 where
@@ -249,15 +228,7 @@ held b p n end at h = grind (arith, nat_tests)
 
 pub parsed : (b : List ℕ) (mode : ParseMode) (h : HeaderView) → header_at b mode ≡ Ok h → Parsed b mode h
 unfolding header_at header_tests
-parsed b mode h e =
-    let p : ℕ = (dos_header b 0).pe_pointer in
-    let one = passed (holds b 0 64) Short _ h e in
-    let two = passed ((dos_header b 0).signature == 0x5A4D) BadMagic _ h one.1 in
-    let three = passed (nat_le 64 p || is_permissive mode) HeaderPointer _ h two.1 in
-    let four = passed (holds b p 4) Short _ h three.1 in
-    let five = passed (le b p 4 == 0x4550) BadMagic _ h four.1 in
-    let six = passed (holds b (p + 4) 20) Short _ h five.1 in
-    record { value = value_is (header_tests b mode) (header b) h e; room = held b (p + 4) 20 (p + 24) (omega arith) six.0; magic = two.0; pointer = three.0; signature = five.0; optional = six.1 }
+parsed b mode h e = grind (arith, passed, value_is, held)
 
 -- so the magic number of the optional header is valid, if there is one, and its directories lie in the file
 pub record OptionalParsed (b : List ℕ) (q : ℕ) : Type 0 where
@@ -266,22 +237,9 @@ pub record OptionalParsed (b : List ℕ) (q : ℕ) : Type 0 where
 
 optional_parsed : (t : Bool) (b : List ℕ) (q : ℕ) (x h : HeaderView) → t ≡ false → outcome (if t then [] else optional_header_tests b q) x ≡ Ok h → OptionalParsed b q
 unfolding optional_header_tests
-optional_parsed true b q x h is e = absurd cc
-optional_parsed false b q x h is e =
-    let d : ℕ = directories_offset (is_pe32_plus b q) in
-    let n : ℕ = 8 * kept (optional_header b q).windows_fields.number_of_rva_and_sizes in
-    let one = passed (holds b q 2) Short _ h e in
-    let two = passed (le b q 2 == 0x10B || is_pe32_plus b q) BadMagic _ h one.1 in
-    let three = passed (holds b q d) Short _ h two.1 in
-    let four = passed (holds b (q + d) n) Short _ h three.1 in
-    record { magic = two.0; room = held b (q + d) n (q + d + n) refl four.0 }
+optional_parsed t b q x h is e = grind (arith, passed, held)
 
 -- ---- where the two fields are
-
-entry_offset : (t w : Bool) (p : ℕ) → (if t then record { offset = p + 24 + directories_offset w + 32; length = 8 } else empty_range).length ≡ 8 →
-    (if t then record { offset = p + 24 + directories_offset w + 32; length = 8 } else empty_range).offset ≡ p + 24 + directories_offset w + 32
-entry_offset false w p h = absurd (omega (arith, h))
-entry_offset true w p h = refl
 
 -- the parts that a digest leaves out, with an optional header
 abbrev pub parts : ℕ → OptionalHeaderView → LeftOut
@@ -292,25 +250,14 @@ pub record Fields (t : Bool) (p : ℕ) (o : OptionalHeaderView) (l : LeftOut) : 
   pub checksum : l.checksum.offset ≡ p + 88
   pub entry : l.directory_entry.offset ≡ p + 24 + directories_offset (o.standard_fields.magic == 0x20B) + 32
 
-fields_of : (p : ℕ) (o : OptionalHeaderView) → (entry_range p o).length ≡ 8 → Fields false p o (parts p o)
-fields_of p o h = record { some = refl; checksum = refl; entry = entry_offset (nat_lt 4 (length o.data_directories)) (o.standard_fields.magic == 0x20B) p h }
-
 pub fields_at : (t : Bool) (p : ℕ) (o : OptionalHeaderView) (l : LeftOut) → left_out_before p (if t then None else Some o) ≡ Ok l → l.directory_entry.length ≡ 8 → Fields t p o l
-fields_at true p o l e h = absurd cc
-fields_at false p o l e h =
-    let is : parts p o ≡ l = cc in
-    subst (λ (k : LeftOut). k.directory_entry.length ≡ 8 → Fields false p o k) is (fields_of p o) h
+fields_at t p o l e h = grind arith
 
 -- ---- the headers
 
-magic_by : (w : Bool) (b : List ℕ) (q : ℕ) → (if w then standard_fields_64 b q else standard_fields_32 b q).magic ≡ le b q 2
-unfolding standard_fields_64 standard_fields_32
-magic_by true b q = refl
-magic_by false b q = refl
-
 pub magic_is : (b : List ℕ) (q : ℕ) → (optional_header b q).standard_fields.magic ≡ le b q 2
-unfolding optional_header
-magic_is b q = magic_by (is_pe32_plus b q) b q
+unfolding optional_header standard_fields_64 standard_fields_32
+magic_is b q = grind arith
 
 pub count_is : (b : List ℕ) (q : ℕ) → length (optional_header b q).data_directories ≡ kept (optional_header b q).windows_fields.number_of_rva_and_sizes
 unfolding optional_header
@@ -319,10 +266,7 @@ count_is b q = length-each _ _
 -- where the directories end
 pub end_is : (t : Bool) (b : List ℕ) (p : ℕ) → t ≡ false →
     directories_end_after p (if t then None else Some (optional_header b (p + 24))) ≡ (p + 24) + directories_offset (is_pe32_plus b (p + 24)) + 8 * kept (optional_header b (p + 24)).windows_fields.number_of_rva_and_sizes
-end_is true b p e = absurd cc
-end_is false b p e =
-    ap (λ (m : ℕ). p + 24 + directories_offset (m == 0x20B) + 8 * length (optional_header b (p + 24)).data_directories) (magic_is b (p + 24))
-    ∙ ap (λ (m : ℕ). p + 24 + directories_offset (is_pe32_plus b (p + 24)) + 8 * m) (count_is b (p + 24))
+end_is t b p e = grind (arith, magic_is, count_is)
 
 -- with the checksum at its offset, and an entry of the directory with any index
 again_at : (f b : List ℕ) (mode : ParseMode) (h : HeaderView) (i at : ℕ) (entry : DataDirectory) → Parsed b mode h →
@@ -359,58 +303,34 @@ again_at f b mode h i at entry a some at_e s is =
 
 -- there is an optional header
 pub some_optional : (t : Bool) (x o : OptionalHeaderView) → (if t then None else Some x) ≡ Some o → (t ≡ false) × (x ≡ o)
-some_optional true x o e = absurd cc
-some_optional false x o e = (refl, cc)
+some_optional t x o e = grind arith
 
 changed_at : (f b : List ℕ) (mode : ParseMode) (h : HeaderView) (o : OptionalHeaderView) (i at : ℕ) (entry : DataDirectory) → Parsed b mode h → (header b).optional_header ≡ Some o →
     at ≡ (header b).dos_header.pe_pointer + 24 + directories_offset (o.standard_fields.magic == 0x20B) + 8 * i →
     Stays f b ((header b).dos_header.pe_pointer + 88) at (directories_end (header b)) → data_directory f at ≡ entry →
     header_at f mode ≡ Ok (headers_changed i entry (le f ((header b).dos_header.pe_pointer + 88) 4) (header b))
 unfolding header
-changed_at f b mode h o i at entry a e at_e s is =
-    let p : ℕ = (dos_header b 0).pe_pointer in
-    let t : Bool = (coff_header b (p + 4)).size_of_optional_header == 0 in
-    let both : (t ≡ false) × (optional_header b (p + 24) ≡ o) = some_optional t (optional_header b (p + 24)) o e in
-    let magic : o.standard_fields.magic ≡ le b (p + 24) 2 = ap (λ (x : OptionalHeaderView). x.standard_fields.magic) (sym both.1) ∙ magic_is b (p + 24) in
-    again_at f b mode h i at entry a both.0 (at_e ∙ ap (λ (m : ℕ). p + 24 + directories_offset (m == 0x20B) + 8 * i) magic) s is
+changed_at f b mode h o i at entry a e at_e s is = grind (arith, some_optional, magic_is, again_at)
 
 -- the headers of a file with another checksum and another entry of the directory with this index
 pub headers_change : (f b : List ℕ) (mode : ParseMode) (h : HeaderView) (o : OptionalHeaderView) (i at : ℕ) (entry : DataDirectory) → header_at b mode ≡ Ok h → h.optional_header ≡ Some o →
     at ≡ h.dos_header.pe_pointer + 24 + directories_offset (o.standard_fields.magic == 0x20B) + 8 * i →
     Stays f b (h.dos_header.pe_pointer + 88) at (directories_end h) → data_directory f at ≡ entry →
     header_at f mode ≡ Ok (headers_changed i entry (le f (h.dos_header.pe_pointer + 88) 4) h)
-headers_change f b mode h o i at entry e some at_e s is =
-    let a : Parsed b mode h = parsed b mode h e in
-    subst (λ (k : HeaderView). k.optional_header ≡ Some o → at ≡ k.dos_header.pe_pointer + 24 + directories_offset (o.standard_fields.magic == 0x20B) + 8 * i →
-    Stays f b (k.dos_header.pe_pointer + 88) at (directories_end k) → header_at f mode ≡ Ok (headers_changed i entry (le f (k.dos_header.pe_pointer + 88) 4) k)) a.value
-    (λ w x y. changed_at f b mode h o i at entry a w x y is) some at_e s
+headers_change f b mode h o i at entry e some at_e s is = grind (arith, parsed, changed_at)
 
 again : (f b : List ℕ) (mode : ParseMode) (h : HeaderView) (l : LeftOut) (entry : DataDirectory) → Parsed b mode h → left_out_of (header b) ≡ Ok l → l.directory_entry.length ≡ 8 →
     Stays f b l.checksum.offset l.directory_entry.offset (directories_end (header b)) → data_directory f l.directory_entry.offset ≡ entry →
     header_at f mode ≡ Ok (headers_with entry (le f l.checksum.offset 4) (header b))
 unfolding header
-again f b mode h l entry a e eight s is =
-    let p : ℕ = (dos_header b 0).pe_pointer in
-    let q : ℕ = p + 24 in
-    let at : ℕ = l.directory_entry.offset in
-    let t : Bool = (coff_header b (p + 4)).size_of_optional_header == 0 in
-    let fields : Fields t p (optional_header b q) l = fields_at t p (optional_header b q) l e eight in
-    let at_e : at ≡ q + directories_offset (is_pe32_plus b q) + 32 = fields.entry ∙ ap (λ (m : ℕ). p + 24 + directories_offset (m == 0x20B) + 32) (magic_is b q) in
-    subst (λ (c : ℕ). Stays f b c at (directories_end (header b)) → header_at f mode ≡ Ok (headers_with entry (le f c 4) (header b))) (sym fields.checksum)
-    (λ r. again_at f b mode h 4 at entry a fields.some at_e r is) s
+again f b mode h l entry a e eight s is = grind (arith, fields_at, magic_is, again_at)
 
 pub headers_stay : (f b : List ℕ) (mode : ParseMode) (h : HeaderView) (l : LeftOut) (entry : DataDirectory) → header_at b mode ≡ Ok h → left_out_of h ≡ Ok l → l.directory_entry.length ≡ 8 →
     Stays f b l.checksum.offset l.directory_entry.offset (directories_end h) → data_directory f l.directory_entry.offset ≡ entry →
     header_at f mode ≡ Ok (headers_with entry (le f l.checksum.offset 4) h)
-headers_stay f b mode h l entry e i eight s is =
-    let a : Parsed b mode h = parsed b mode h e in
-    subst (λ (k : HeaderView). left_out_of k ≡ Ok l → Stays f b l.checksum.offset l.directory_entry.offset (directories_end k) → header_at f mode ≡ Ok (headers_with entry (le f l.checksum.offset 4) k)) a.value
-    (λ j r. again f b mode h l entry a j eight r is) i s
+headers_stay f b mode h l entry e i eight s is = grind (arith, parsed, again)
 
 -- ---- a file that ends inside its directories is refused
-
-not_held : (f : List ℕ) (q n : ℕ) → length f < q + n → holds f q n ≡ false
-not_held f q n h = grind (arith, nat_tests)
 
 number_by : (w : Bool) (f b : List ℕ) (c e n : ℕ) → Stays f b c e n → (q : ℕ) → is_pe32_plus b q ≡ w → c ≡ q + 64 → e ≡ q + directories_offset (is_pe32_plus b q) + 32 →
     (optional_header f q).windows_fields.number_of_rva_and_sizes ≡ (optional_header b q).windows_fields.number_of_rva_and_sizes
@@ -428,16 +348,7 @@ optional_refused : (f b : List ℕ) (q : ℕ) → le f q 2 ≡ le b q 2 → (opt
     (le b q 2 == 0x10B || is_pe32_plus b q) ≡ true → q + directories_offset (is_pe32_plus b q) ≤ length f →
     length f < q + directories_offset (is_pe32_plus b q) + 8 * kept (optional_header b q).windows_fields.number_of_rva_and_sizes → (y : HeaderView) → outcome (optional_header_tests f q) y ≡ Err Short
 unfolding optional_header_tests
-optional_refused f b q two number magic room less y =
-    let d : ℕ = directories_offset (is_pe32_plus b q) in
-    rw (
-      two,
-      number,
-      magic,
-      le_is (q + 2) (length f) (omega (arith, wide (is_pe32_plus b q))),
-      le_is (q + d) (length f) room,
-      not_held f (q + d) (8 * kept (optional_header b q).windows_fields.number_of_rva_and_sizes) less,
-    ) refl
+optional_refused f b q two number magic room less y = grind (arith, le_is, wide, nat_tests)
 
 lost : (f b : List ℕ) (mode : ParseMode) (h : HeaderView) (l : LeftOut) → Parsed b mode h → left_out_of (header b) ≡ Ok l → l.directory_entry.length ≡ 8 →
     Stays f b l.checksum.offset l.directory_entry.offset (length f) → length f < directories_end (header b) → header_at f mode ≡ Err Short
@@ -477,18 +388,9 @@ headers_lost f b mode h l e i eight s less =
 
 -- ---- the directories of a file that is parsed lie in it
 
-ends_inside : (t : Bool) (b : List ℕ) (p : ℕ) → p + 24 ≤ length b → (t ≡ false → OptionalParsed b (p + 24)) → directories_end_after p (if t then None else Some (optional_header b (p + 24))) ≤ length b
-ends_inside true b p h o = h
-ends_inside false b p h o = let room = (o refl).room in omega (arith, end_is false b p refl, room)
-
 end_of_header : (b : List ℕ) (mode : ParseMode) (h : HeaderView) → Parsed b mode h → directories_end (header b) ≤ length b
 unfolding header
-end_of_header b mode h a =
-    let p : ℕ = (dos_header b 0).pe_pointer in
-    let t : Bool = (coff_header b (p + 4)).size_of_optional_header == 0 in
-    ends_inside t b p a.room (λ i. optional_parsed t b (p + 24) (header b) h i a.optional)
+end_of_header b mode h a = grind (arith, optional_parsed, end_is)
 
 pub directories_inside : (b : List ℕ) (mode : ParseMode) (h : HeaderView) → header_at b mode ≡ Ok h → directories_end h ≤ length b
-directories_inside b mode h e =
-    let a : Parsed b mode h = parsed b mode h e in
-    subst (λ (k : HeaderView). directories_end k ≤ length b) a.value (end_of_header b mode h a)
+directories_inside b mode h e = grind (arith, parsed, end_of_header)

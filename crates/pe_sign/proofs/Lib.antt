@@ -1,3 +1,4 @@
+mod Cited
 pub mod Sums
 pub mod Parts
 pub mod Slices

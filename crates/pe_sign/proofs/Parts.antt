@@ -1,15 +1,10 @@
 -- Parts of a file, split around ranges that are left out.
 use Rattle.std.proofs.Common.{◌≡◌, ℕ, suc, ◌+◌, ◌-◌, ◌<◌, ◌≤◌, ◌⊎◌, ◌^◌, Bool, true, false, List, [], ◌∷◌, ◌++◌, length, take, drop, refl, ap, sym, ◌∙◌, ⊎_elim, arith}
-use Rattle.std.proofs.lemmas.Bool.{cases_lt}
-use Rattle.std.proofs.lemmas.Bool.Decides.{nat_tests}
-use Rattle.std.proofs.lemmas.List.{length-take-le, length-drop, take-append-drop, drop-drop}
-use Rattle.pe_core.specs.declared.byte_range.ByteRange.{ByteRange}
-use Rattle.pe_sign.specs.declared.digest.Part.{Part}
-use Rattle.pe_sign.specs.Digest.{is_in, unless, kept_bytes, Throughout, IsCut}
+use Rattle.pe_sign.proofs.Cited.{cases_lt, nat_tests, length-take-le, length-drop, take-append-drop, drop-drop, ByteRange, Part}
+use Rattle.pe_sign.proofs.Cited.{is_in, unless, kept_bytes, Throughout, IsCut}
 
 unless_append : (b : Bool) (x : ℕ) (xs ys : List ℕ) → unless b x (xs ++ ys) ≡ unless b x xs ++ ys
-unless_append true x xs ys = refl
-unless_append false x xs ys = refl
+unless_append b x xs ys = grind arith
 
 pub kept_append : (q : ℕ → Bool) (p : ℕ) (xs ys : List ℕ) → kept_bytes q p (xs ++ ys) ≡ kept_bytes q p xs ++ kept_bytes q (p + length xs) ys
 unfolding kept_bytes
@@ -27,10 +22,6 @@ pub kept_none : (q : ℕ → Bool) (p : ℕ) (xs : List ℕ) → Throughout q tr
 unfolding kept_bytes
 kept_none q p [] h = refl
 kept_none q p (x ∷ xs) h = rw (h p (omega arith) (omega arith)) (kept_none q (suc p) xs (λ k a b. h k (omega arith) (omega arith)))
-
--- no offset of [p, p + n) is in a range that ends before p or starts after p + n
-is_out_before : (r : ByteRange) (q : ℕ) → q < r.offset → is_in r q ≡ false
-is_out_before r q h = grind (arith, nat_tests)
 
 is_out_after : (r : ByteRange) (q : ℕ) → r.offset + r.length ≤ q → is_in r q ≡ false
 is_out_after r q h = grind (arith, nat_tests)
@@ -58,7 +49,7 @@ cut_at r whole before after end s e not_past is_end ordered small s_in s_before 
       joined = sym (take-append-drop s xs) ∙ ap (λ (ys : List ℕ). take s xs ++ ys) rest ∙ ap (λ (ys : List ℕ). ys ++ (m ++ drop e xs)) (sym b_bytes) ∙ ap (λ (ys : List ℕ). before.bytes.now ++ (m ++ ys)) (sym a_bytes);
       start = b_offset;
       end = omega (arith, a_offset, b_length, m_length, rising);
-      is_before = λ q from to. ⊎_elim (λ (h : whole.offset + s ≤ r.offset). is_out_before r q (omega (arith, b_offset, b_length))) (λ (h : s ≡ 0). absurd (omega (arith, b_offset, b_length))) s_before;
+      is_before = λ q from to. ⊎_elim (λ (h : whole.offset + s ≤ r.offset). grind (arith, nat_tests)) (λ (h : s ≡ 0). absurd (omega (arith, b_offset, b_length))) s_before;
       is_between = λ q from to. is_inside r q (⊎_elim (λ (h : r.offset ≤ whole.offset + s). omega (arith, b_length)) (λ (h : s ≡ length xs). absurd (omega (arith, b_length, m_length, e_in))) s_after) (⊎_elim (λ (h : whole.offset + e ≤ end). omega (arith, b_length, m_length, rising)) (λ (h : e ≡ 0). absurd (omega (arith, b_length, m_length))) e_before);
       is_after = λ q from to. ⊎_elim (λ (h : end ≤ whole.offset + e). is_out_after r q (⊎_elim (λ (i : end + 1 < 2 ^ 64). omega (arith, a_offset, is_end i)) (λ (i : 2 ^ 64 ≤ end + 1). absurd (omega (arith, a_offset, a_length, small))) (cases_lt (end + 1) (2 ^ 64)))) (λ (h : e ≡ length xs). absurd (omega (arith, a_offset, a_length))) e_after;
     }

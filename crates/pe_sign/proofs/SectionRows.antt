@@ -1,18 +1,8 @@
 -- A test of all sections, one more at a time.
-use Rattle.std.proofs.Common.{◌≡◌, ℕ, zero, suc, ◌+◌, ◌*◌, ◌<◌, ◌≤◌, ◌&&◌, Bool, true, false, List, [], ◌∷◌, ap, refl, sym, ◌∙◌, ⊎_elim, arith}
-use Rattle.std.specs.List.{list_all}
-use Rattle.std.proofs.lemmas.Bool.{cases_lt}
+use Rattle.std.proofs.Common.{◌≡◌, ℕ, zero, suc, ◌+◌, ◌*◌, ◌<◌, ◌≤◌, ◌&&◌, Bool, true, false, List, [], ◌∷◌, ap, sym, ◌∙◌, ⊎_elim, arith}
+use Rattle.pe_sign.proofs.Cited.{list_all, cases_lt, HeaderView, section_table, each, sections_offset, SectionTable, data_ends_by}
+use Rattle.pe_sign.proofs.Cited.{sections_end_by}
 use Rattle.std.proofs.lemmas.List.Folds.{list_all-append}
-use Rattle.pe_core.specs.Header.{HeaderView}
-use Rattle.pe_core.specs.Records.{section_table}
-use Rattle.pe_core.specs.Rows.{each}
-use Rattle.pe_core.specs.Sections.{sections_offset}
-use Rattle.pe_core.specs.declared.section_table.SectionTable.{SectionTable}
-use Rattle.pe_sign.specs.Attaching.{data_ends_by, sections_end_by}
-
-and_false : (a : Bool) → (a && false) ≡ false
-and_false true = refl
-and_false false = refl
 
 one_more : {X : Type 0} (p : X → Bool) (f : ℕ → X) (n : ℕ) → list_all p (each f (suc n)) ≡ (list_all p (each f n) && (p (f n) && true))
 unfolding each
@@ -29,7 +19,7 @@ one_fails p f zero k h i = absurd (omega arith)
 one_fails p f (suc n) k h i =
     one_more p f n ∙ ⊎_elim
     (λ (lt : k < n). ap (λ t. t && (p (f n) && true)) (one_fails p f n k lt i))
-    (λ (ge : n ≤ k). let e : k ≡ n = omega arith in ap (λ t. list_all p (each f n) && (t && true)) (last_fails p f k n e i) ∙ and_false (list_all p (each f n)))
+    (λ (ge : n ≤ k). let e : k ≡ n = omega arith in ap (λ t. list_all p (each f n) && (t && true)) (last_fails p f k n e i) ∙ (grind arith))
     (cases_lt k n)
 
 pub section_fails : (b : List ℕ) (h : HeaderView) (end start k : ℕ) (s : SectionTable) → start ≡ sections_offset h → k < h.coff_header.number_of_sections →

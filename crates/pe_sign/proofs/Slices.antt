@@ -1,34 +1,19 @@
 -- The slices that are left of a file without its three parts.
-use Rattle.std.proofs.Common.{◌≡◌, ℕ, ◌+◌, ◌-◌, ◌<◌, ◌≤◌, ◌||◌, Bool, true, false, List, [], ◌∷◌, ◌++◌, drop, length, take, Ok, refl, ap, sym, ◌∙◌, arith, subst, ⊎_elim}
-use Rattle.std.specs.Prelude.{min}
+use Rattle.std.proofs.Common.{◌≡◌, ℕ, ◌+◌, ◌-◌, Bool, true, false, List, [], ◌∷◌, ◌++◌, drop, length, take, Ok, refl, ap, sym, ◌∙◌, arith, subst}
+use Rattle.pe_sign.proofs.Cited.{min, cases_lt, append-nil, append_assoc, drop_all, length-append, length-drop, take_all, ByteRange}
+use Rattle.pe_sign.proofs.Cited.{HeaderView, LeftOut, Part, AreSides, Covered, covered, is_in, is_left_out, kept_bytes, digested}
+use Rattle.pe_sign.proofs.Cited.{left_out_of, zeros_after, joined_slices, Throughout, IsCut}
 use Rattle.std.specs.Borrow.{Bor}
-use Rattle.std.proofs.lemmas.Bool.{cases_lt}
-use Rattle.std.proofs.lemmas.List.{append-nil, append_assoc, drop_all, length-append, length-drop, take_all}
-use Rattle.pe_core.specs.declared.byte_range.ByteRange.{ByteRange}
-use Rattle.pe_core.specs.Header.{HeaderView}
 use Rattle.pe_sign.specs.declared.digest.AuthenticodeRanges.{AuthenticodeRanges}
-use Rattle.pe_sign.specs.declared.digest.LeftOut.{LeftOut}
-use Rattle.pe_sign.specs.declared.digest.Part.{Part}
-use Rattle.pe_sign.specs.Digest.{AreSides, Covered, covered, is_in, is_left_out, kept_bytes, digested, left_out_of, zeros_after, joined_slices, Throughout, IsCut}
 use Rattle.pe_sign.proofs.Parts.{kept_append, kept_all, kept_none}
 
 -- the length of a part that is split
 pub length_cut : (r : ByteRange) (w x y : Part) (cut : IsCut r w x y) → length w.bytes.now ≡ length x.bytes.now + (length cut.between + length y.bytes.now)
-length_cut r w x y cut =
-    ap (λ (l : List ℕ). length l) cut.joined ∙ length-append x.bytes.now (cut.between ++ y.bytes.now) ∙ ap (λ (n : ℕ). length x.bytes.now + n) (length-append cut.between y.bytes.now)
+length_cut r w x y cut = grind (arith, length-append)
 
 -- what is kept of a part is what is kept of both sides of a range that is left out
 pub cut_kept : (q : ℕ → Bool) (r : ByteRange) (w x y : Part) → IsCut r w x y → ((k : ℕ) → is_in r k ≡ true → q k ≡ true) → kept_bytes q w.offset w.bytes.now ≡ kept_bytes q x.offset x.bytes.now ++ kept_bytes q y.offset y.bytes.now
-cut_kept q r w x y cut inside =
-    let xs : List ℕ = x.bytes.now in
-    let ms : List ℕ = cut.between in
-    let ys : List ℕ = y.bytes.now in
-    let none : kept_bytes q (w.offset + length xs) ms ≡ [] = kept_none q (w.offset + length xs) ms (λ k from to. inside k (cut.is_between k from to)) in
-    ap (λ (l : List ℕ). kept_bytes q w.offset l) cut.joined
-    ∙ kept_append q w.offset xs (ms ++ ys)
-    ∙ ap (λ (l : List ℕ). kept_bytes q w.offset xs ++ l) (kept_append q (w.offset + length xs) ms ys ∙ ap (λ (l : List ℕ). l ++ kept_bytes q (w.offset + length xs + length ms) ys) none)
-    ∙ ap (λ (k : ℕ). kept_bytes q k xs ++ kept_bytes q (w.offset + length xs + length ms) ys) (sym cut.start)
-    ∙ ap (λ (k : ℕ). kept_bytes q x.offset xs ++ kept_bytes q k ys) (sym cut.end)
+cut_kept q r w x y cut inside = grind (arith, kept_none, kept_append)
 
 -- what holds throughout a part holds throughout both sides
 pub throughout_before : (q : ℕ → Bool) (v : Bool) (r : ByteRange) (w x y : Part) → IsCut r w x y → Throughout q v w.offset w.bytes.now → Throughout q v x.offset x.bytes.now
@@ -44,20 +29,11 @@ none_of_three l p xs a b c = kept_all (is_left_out l) p xs (λ k from to. rw (a 
 pub in_checksum : (l : LeftOut) (k : ℕ) → is_in l.checksum k ≡ true → is_left_out l k ≡ true
 in_checksum l k h = rw h refl
 
-or_true : (a c : Bool) → ((a || true) || c) ≡ true
-or_true true c = refl
-or_true false c = refl
-
-or_last : (a b : Bool) → ((a || b) || true) ≡ true
-or_last true b = refl
-or_last false true = refl
-or_last false false = refl
-
 pub in_entry : (l : LeftOut) (k : ℕ) → is_in l.directory_entry k ≡ true → is_left_out l k ≡ true
-in_entry l k h = rw h (or_true (is_in l.checksum k) (is_in l.certificates k))
+in_entry l k h = grind arith
 
 pub in_certificates : (l : LeftOut) (k : ℕ) → is_in l.certificates k ≡ true → is_left_out l k ≡ true
-in_certificates l k h = rw h (or_last (is_in l.checksum k) (is_in l.directory_entry k))
+in_certificates l k h = grind arith
 
 -- the two slices of a part that is outside the checksum and the certificates
 two : (l : LeftOut) (x a b : Part) → IsCut l.directory_entry x a b → Throughout (is_in l.checksum) false x.offset x.bytes.now → Throughout (is_in l.certificates) false x.offset x.bytes.now → kept_bytes (is_left_out l) x.offset x.bytes.now ≡ a.bytes.now ++ b.bytes.now
@@ -80,30 +56,18 @@ four_slices l w x y a b c d cut left right certificates =
 -- the slices on both sides of the certificates
 pub both_sides : (l : LeftOut) (w x y : Part) (fs bs : List (Bor (List ℕ))) → IsCut l.certificates w x y → joined_slices fs ≡ kept_bytes (is_left_out l) x.offset x.bytes.now → joined_slices bs ≡ kept_bytes (is_left_out l) y.offset y.bytes.now →
     joined_slices fs ++ joined_slices bs ≡ kept_bytes (is_left_out l) w.offset w.bytes.now
-both_sides l w x y fs bs cut front back =
-    ap (λ (ys : List ℕ). ys ++ joined_slices bs) front ∙ ap (λ (ys : List ℕ). kept_bytes (is_left_out l) x.offset x.bytes.now ++ ys) back ∙ sym (cut_kept (is_left_out l) l.certificates w x y cut (in_certificates l))
+both_sides l w x y fs bs cut front back = simp (front, back, cut_kept (is_left_out l) l.certificates w x y cut (in_certificates l))
 
 -- ---- which bytes are on which side
 
 pub take_to : {X : Type 0} (xs : List X) (n k : ℕ) → k ≡ min n (length xs) → take k xs ≡ take n xs
-take_to {X} xs n k e = ⊎_elim
-    (λ (h : n < length xs). let same : k ≡ n = omega (arith, e, h) in ap (λ (m : ℕ). take m xs) same)
-    (λ (h : length xs ≤ n). take_all k xs (omega (arith, e, h)) ∙ sym (take_all n xs h))
-    (cases_lt n (length xs))
-
-drop_to : {X : Type 0} (xs : List X) (n k : ℕ) → k ≡ min n (length xs) → drop k xs ≡ drop n xs
-drop_to {X} xs n k e = ⊎_elim
-    (λ (h : n < length xs). let same : k ≡ n = omega (arith, e, h) in ap (λ (m : ℕ). drop m xs) same)
-    (λ (h : length xs ≤ n). drop_all k xs (omega (arith, e, h)) ∙ sym (drop_all n xs h))
-    (cases_lt n (length xs))
+take_to xs n k e = grind (arith, take_all, cases_lt)
 
 pub rest_to : {X : Type 0} (xs : List X) (n k : ℕ) → k ≡ min n (length xs) → take (length xs - k) (drop k xs) ≡ drop n xs
-rest_to {X} xs n k e = take_all (length xs - k) (drop k xs) (omega (arith, length-drop k xs)) ∙ drop_to xs n k e
+rest_to xs n k e = grind (arith, take_all, length-drop, drop_all, cases_lt)
 
 pub kept_before : (q : ℕ → Bool) (r : ByteRange) (b : List ℕ) (x : Part) → x.offset ≡ 0 → x.bytes.now ≡ take (r.offset - 0) b → kept_bytes q x.offset x.bytes.now ≡ kept_bytes q 0 (take r.offset b)
-kept_before q r b x start bytes =
-    let same : r.offset - 0 ≡ r.offset = omega arith in
-    ap (λ (k : ℕ). kept_bytes q k x.bytes.now) start ∙ ap (λ (l : List ℕ). kept_bytes q 0 l) (bytes ∙ ap (λ (k : ℕ). take k b) same)
+kept_before q r b x start bytes = grind arith
 
 -- no byte is after the end, wherever it starts
 none_after : (q : ℕ → Bool) (k n : ℕ) (xs : List ℕ) → xs ≡ [] → kept_bytes q k xs ≡ kept_bytes q n xs
@@ -112,14 +76,7 @@ none_after q k n xs e = rw e refl
 
 pub kept_after : (q : ℕ → Bool) (r : ByteRange) (b : List ℕ) (y : Part) → y.bytes.now ≡ drop (r.offset + r.length - 0) b → y.offset ≡ 0 + min (r.offset + r.length - 0) (length b)
     → kept_bytes q y.offset y.bytes.now ≡ kept_bytes q (r.offset + r.length) (drop (r.offset + r.length) b)
-kept_after q r b y bytes offset =
-    let end : ℕ = r.offset + r.length in
-    let same : end - 0 ≡ end = omega arith in
-    let dropped : y.bytes.now ≡ drop end b = bytes ∙ ap (λ (k : ℕ). drop k b) same in
-    ap (λ (l : List ℕ). kept_bytes q y.offset l) dropped ∙ ⊎_elim
-    (λ (h : end < length b). let at : y.offset ≡ end = omega (arith, offset, h) in ap (λ (k : ℕ). kept_bytes q k (drop end b)) at)
-    (λ (h : length b ≤ end). none_after q y.offset end (drop end b) (drop_all end b h))
-    (cases_lt end (length b))
+kept_after q r b y bytes offset = grind (arith, none_after, drop_all, cases_lt)
 
 pub sides_of : (h : HeaderView) (b : List ℕ) (r : AuthenticodeRanges) (x : LeftOut) → left_out_of h ≡ Ok x → AreSides x b r → (l : LeftOut) → left_out_of h ≡ Ok l → AreSides l b r
 sides_of h b r x e sides l f = let same : x ≡ l = cc in subst (λ (k : LeftOut). AreSides k b r) same sides

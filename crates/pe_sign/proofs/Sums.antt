@@ -1,8 +1,7 @@
 -- Sums of words, one more at a time.
 use Rattle.std.proofs.Common.{◌≡◌, ℕ, suc, [], ◌∷◌}
-use Rattle.std.specs.List.{fold}
+use Rattle.pe_sign.proofs.Cited.{fold, each}
 use Rattle.std.proofs.lemmas.List.Sums.{fold-append}
-use Rattle.pe_core.specs.Rows.{each}
 
 pub fold_each : {X B : Type 0} (f : B → X → B) (a : B) (g : ℕ → X) (n : ℕ) → fold f a (each g (suc n)) ≡ f (fold f a (each g n)) (g n)
 unfolding each

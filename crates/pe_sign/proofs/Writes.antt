@@ -1,50 +1,29 @@
 -- The parts of a file, written one after the other into a buffer.
 use Rattle.std.proofs.Common.{◌≡◌, ℕ, ◌+◌, ◌≤◌, List, ◌++◌, length, take, drop, ap, sym, ◌∙◌, arith, length-append}
-use Rattle.std.proofs.lemmas.List.{take_at, drop_at, take-append-drop, length-take-le}
-use Rattle.pe_core.specs.Bytes.{bytes_of, splice}
-use Rattle.pe_core.specs.SectionMap.{rounded_up}
-use Rattle.pe_core.specs.declared.data_directories.DataDirectory.{DataDirectory}
-use Rattle.pe_core.specs.Directories.{absent_directory}
-use Rattle.pe_sign.specs.Attaching.{padded, with_entry, with_checksum, with_both_fields, unsigned_length, unsigned_file, kept_length, table_start, entry_to, joined_file, attached_file, detached_file}
-use Rattle.pe_sign.specs.AttachingSteps.{Fits}
-use Rattle.pe_sign.specs.Checksum.{checksum_of}
-use Rattle.pe_sign.specs.declared.attachment.Placement.{Placement}
-use Rattle.pe_sign.specs.declared.attachment.Placement.TheVariants.{After, InPlace}
-use Rattle.pe_sign.specs.declared.digest.LeftOut.{LeftOut}
-use Rattle.pe_core.proofs.Splices.{length-splice, splice-splice, length-bytes_of}
+use Rattle.pe_sign.proofs.Cited.{take_at, drop_at, take-append-drop, length-take-le, bytes_of, splice, rounded_up, DataDirectory}
+use Rattle.pe_sign.proofs.Cited.{with_entry, with_checksum, with_both_fields, unsigned_length, kept_length, joined_file}
+use Rattle.pe_sign.proofs.Cited.{attached_file, detached_file, Fits, checksum_of, Placement, LeftOut, length-splice, splice-splice}
+use Rattle.pe_sign.proofs.Cited.{length-bytes_of}
 use Rattle.pe_sign.proofs.Splices.{splice_front, splice_first, length-padded}
 
 -- ---- lengths
 
 pub length-entry : (l : LeftOut) (row : DataDirectory) (b : List ℕ) → l.directory_entry.offset + 8 ≤ length b → length (with_entry l row b) ≡ length b
 unfolding with_entry
-length-entry l row b h =
-    let p : ℕ = l.directory_entry.offset in
-    let x : List ℕ = bytes_of 4 row.virtual_address in
-    let y : List ℕ = bytes_of 4 row.size in
-    let first : length (splice b p x) ≡ length b = length-splice b p x (omega (arith, length-bytes_of 4 row.virtual_address)) in
-    length-splice (splice b p x) (p + 4) y (omega (arith, first, length-bytes_of 4 row.size)) ∙ first
+length-entry l row b h = grind (arith, length-splice, length-bytes_of)
 
 pub length-checksum : (l : LeftOut) (b : List ℕ) → l.checksum.offset + 4 ≤ length b → length (with_checksum l b) ≡ length b
 unfolding with_checksum
 length-checksum l b h = let n : ℕ = checksum_of b l.checksum.offset in length-splice b l.checksum.offset (bytes_of 4 n) (omega (arith, length-bytes_of 4 n))
 
 pub length-fields : (l : LeftOut) (row : DataDirectory) (b : List ℕ) → l.checksum.offset + 4 ≤ length b → l.directory_entry.offset + 8 ≤ length b → length (with_both_fields l row b) ≡ length b
-length-fields l row b h i =
-    let e : length (with_entry l row b) ≡ length b = length-entry l row b i in
-    length-checksum l (with_entry l row b) (omega (arith, e)) ∙ e
+length-fields l row b h i = grind (arith, length-entry, length-checksum)
 
 -- ---- fields that are set in the first bytes of a buffer
 
 entry_first : (l : LeftOut) (row : DataDirectory) (x y : List ℕ) → l.directory_entry.offset + 8 ≤ length x → with_entry l row (x ++ y) ≡ with_entry l row x ++ y
 unfolding with_entry
-entry_first l row x y h =
-    let p : ℕ = l.directory_entry.offset in
-    let s : List ℕ = bytes_of 4 row.virtual_address in
-    let t : List ℕ = bytes_of 4 row.size in
-    let first : length (splice x p s) ≡ length x = length-splice x p s (omega (arith, length-bytes_of 4 row.virtual_address)) in
-    ap (λ (b : List ℕ). splice b (p + 4) t) (splice_first x y p s (omega (arith, length-bytes_of 4 row.virtual_address)))
-    ∙ splice_first (splice x p s) y (p + 4) t (omega (arith, first, length-bytes_of 4 row.size))
+entry_first l row x y h = grind (arith, length-splice, length-bytes_of, splice_first)
 
 pub checksum_set : (l : LeftOut) (old now : List ℕ) (end sum : ℕ) → end ≤ length old → l.checksum.offset + 4 ≤ end →
     sum ≡ checksum_of (take end old) l.checksum.offset → now ≡ splice old l.checksum.offset (bytes_of 4 sum) → now ≡ with_checksum l (take end old) ++ drop end old
@@ -66,9 +45,7 @@ fields_set l row old between now end h i e f =
     let room : l.directory_entry.offset + 8 ≤ length x = omega (arith, front) in
     let size : length (with_entry l row x) ≡ end = length-entry l row x room ∙ front in
     let same : between ≡ with_entry l row x ++ y = e ∙ ap (λ (b : List ℕ). with_entry l row b) (sym (take-append-drop end old)) ∙ entry_first l row x y room in
-    f ∙ ap (λ (b : List ℕ). with_checksum l (take end b) ++ drop end b) same
-    ∙ ap (λ (b : List ℕ). with_checksum l b ++ drop end (with_entry l row x ++ y)) (take_at (with_entry l row x) y end size)
-    ∙ ap (λ (b : List ℕ). with_checksum l (with_entry l row x) ++ b) (drop_at (with_entry l row x) y end size)
+    grind (arith, f, same, take_at (with_entry l row x) y end size, drop_at (with_entry l row x) y end size)
 
 -- ---- a file at the start of a buffer
 
@@ -77,46 +54,27 @@ two_set old x y p h =
     let at : p ≡ 0 + length x = omega (arith, h) in
     ap (λ (k : ℕ). splice (splice old 0 x) k y) at ∙ splice-splice old 0 x y (omega arith)
 
-pub length-joined : (x y : List ℕ) → length (padded x ++ padded y) ≡ rounded_up (length x) 8 + rounded_up (length y) 8
-length-joined x y = length-append (padded x) (padded y) ∙ ap (λ (n : ℕ). n + length (padded y)) (length-padded x) ∙ ap (λ (n : ℕ). rounded_up (length x) 8 + n) (length-padded y)
-
 pub file_set : (l : LeftOut) (row : DataDirectory) (file old between now : List ℕ) (end : ℕ) → length file ≡ end →
     between ≡ splice old 0 file → now ≡ with_both_fields l row (take end between) ++ drop end between → now ≡ with_both_fields l row file ++ drop end old
-file_set l row file old between now end size e f =
-    let same : between ≡ file ++ drop (length file) old = e ∙ splice_front old file in
-    let rest : List ℕ = drop (length file) old in
-    f ∙ ap (λ (b : List ℕ). with_both_fields l row (take end b) ++ drop end b) same
-    ∙ ap (λ (b : List ℕ). with_both_fields l row b ++ drop end (file ++ rest)) (take_at file rest end size)
-    ∙ ap (λ (b : List ℕ). with_both_fields l row file ++ b) (drop_at file rest end size ∙ ap (λ (n : ℕ). drop n old) size)
+file_set l row file old between now end size e f = grind (arith, splice_front, take_at, drop_at)
 
 -- ---- lengths of the files that are written
 
 pub length-kept : (placement : Placement) (l : LeftOut) (b : List ℕ) → Fits l (length b) → length (take (kept_length placement l (length b)) b) ≡ kept_length placement l (length b)
-length-kept After l b f = length-take-le (length b) b (omega arith)
-length-kept InPlace l b f = length-take-le (unsigned_length l (length b)) b f.inside
+length-kept placement l b f = grind (arith, length-take-le)
 
 -- all fields are in what stays
 pub kept_holds : (placement : Placement) (l : LeftOut) (n : ℕ) → Fits l n → unsigned_length l n ≤ kept_length placement l n
-kept_holds After l n f = f.inside
-kept_holds InPlace l n f = omega arith
+kept_holds placement l n f = grind arith
 
 pub length-joined_file : (placement : Placement) (l : LeftOut) (c b : List ℕ) → Fits l (length b) → length (joined_file placement l c b) ≡ rounded_up (kept_length placement l (length b)) 8 + rounded_up (length c) 8
-length-joined_file placement l c b f =
-    length-joined (take (kept_length placement l (length b)) b) c ∙ ap (λ (n : ℕ). rounded_up n 8 + rounded_up (length c) 8) (length-kept placement l b f)
+length-joined_file placement l c b f = grind (arith, length-kept, length-append, length-padded)
 
 pub length-attached : (placement : Placement) (l : LeftOut) (c b : List ℕ) → Fits l (length b) → length (attached_file placement l c b) ≡ rounded_up (kept_length placement l (length b)) 8 + rounded_up (length c) 8
-length-attached placement l c b f =
-    let n : ℕ = length b in
-    let file : List ℕ = joined_file placement l c b in
-    let size : length file ≡ rounded_up (kept_length placement l n) 8 + rounded_up (length c) 8 = length-joined_file placement l c b f in
-    let holds : unsigned_length l n ≤ kept_length placement l n = kept_holds placement l n f in
-    let up : kept_length placement l n ≤ rounded_up (kept_length placement l n) 8 = omega arith in
-    length-fields l (entry_to (table_start placement l n) (length file)) file (omega (arith, size, holds, up, f.checksum)) (omega (arith, size, holds, up, f.entry)) ∙ size
+length-attached placement l c b f = grind (arith, length-joined_file, kept_holds, length-fields)
 
 pub length-detached : (l : LeftOut) (b : List ℕ) → Fits l (length b) → length (detached_file l b) ≡ unsigned_length l (length b)
-length-detached l b f =
-    let size : length (unsigned_file l b) ≡ unsigned_length l (length b) = length-take-le (unsigned_length l (length b)) b f.inside in
-    length-fields l absent_directory (unsigned_file l b) (omega (arith, size, f.checksum)) (omega (arith, size, f.entry)) ∙ size
+length-detached l b f = grind (arith, length-take-le, length-fields)
 
 -- ---- the file is the first bytes of the buffer
 

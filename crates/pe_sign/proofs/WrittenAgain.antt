@@ -1,16 +1,8 @@
 -- The laws of what is written of an image, as the clauses state them.
 use Rattle.std.proofs.Common.{◌≡◌, ℕ, ◌%◌, ◌<◌, ◌≤◌, false, List, length, Ok, Err}
-use Rattle.pe_core.specs.Bytes.{AreBytes, le}
-use Rattle.pe_core.specs.Directories.{absent_directory}
-use Rattle.pe_core.specs.Header.{HeaderView, header_at}
-use Rattle.pe_core.specs.Refusals.{Short}
-use Rattle.pe_core.specs.Sections.{sections_offset}
-use Rattle.pe_core.specs.declared.options.ParseMode.{ParseMode}
-use Rattle.pe_sign.specs.Attaching.{IsAttached, IsDetached, detached_of, entry_to, is_signed, kept_length, table_start, unsigned_length, with_checksum}
-use Rattle.pe_sign.specs.Checksum.{checksum_of}
-use Rattle.pe_sign.specs.WrittenHeaders.{directories_end, headers_with}
-use Rattle.pe_sign.specs.declared.attachment.Placement.{Placement}
-use Rattle.pe_sign.specs.declared.digest.LeftOut.{LeftOut}
+use Rattle.pe_sign.proofs.Cited.{AreBytes, le, absent_directory, HeaderView, header_at, Short, sections_offset, ParseMode}
+use Rattle.pe_sign.proofs.Cited.{IsAttached, IsDetached, detached_of, entry_to, is_signed, kept_length, table_start}
+use Rattle.pe_sign.proofs.Cited.{unsigned_length, with_checksum, checksum_of, directories_end, headers_with, Placement, LeftOut}
 use Rattle.pe_sign.proofs.UnsignedImages.{but_for_checksum, comes_back}
 use Rattle.pe_sign.proofs.WrittenHeaders.{attached_header, detached_header, detached_lost}
 

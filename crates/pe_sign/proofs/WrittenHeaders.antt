@@ -1,26 +1,13 @@
 -- The headers of what is written are parsed.
-use Rattle.std.proofs.Common.{◌≡◌, ℕ, ◌+◌, ◌-◌, ◌*◌, ◌<◌, ◌≤◌, ◌==◌, ◌&&◌, ◌||◌, Bool, true, false, List, ◌++◌, length, get_or, take, Result, Ok, Err, Option, Some, None, refl, ap, sym, ◌∙◌, subst, arith}
-use Rattle.std.specs.Prelude.{nat_lt, if◌then◌else◌}
+use Rattle.std.proofs.Common.{◌≡◌, ℕ, ◌+◌, ◌-◌, ◌<◌, ◌≤◌, ◌==◌, ◌&&◌, Bool, false, List, ◌++◌, length, get_or, take, Result, Ok, Err, Option, Some, None, refl, ap, sym, ◌∙◌, subst, arith}
+use Rattle.pe_sign.proofs.Cited.{nat_lt, if◌then◌else◌, nat_tests, places, length-set, length-take, length-take-le, get_or-set_same}
+use Rattle.pe_sign.proofs.Cited.{absent_directory, HeaderView, OptionalHeaderView, directories_offset, header_at, empty_range}
+use Rattle.pe_sign.proofs.Cited.{data_directory, Refusal, Short, ◌>>=◌, rounded_up, sections_offset, ByteRange, DataDirectory}
+use Rattle.pe_sign.proofs.Cited.{ParseMode, unsigned_length, unsigned_file, padded, kept_length, table_start, entry_to, joined_file}
+use Rattle.pe_sign.proofs.Cited.{attached_of, detached_of, with_both_fields, with_table, without_table, before_table, Fits}
+use Rattle.pe_sign.proofs.Cited.{checksum_of, Covered, certificates_range, covered, covered_bytes, digest_of, left_out_before}
+use Rattle.pe_sign.proofs.Cited.{left_out_of, optional_with, headers_with, directories_end, Placement, LeftOut}
 use Rattle.std.specs.Option.{option_map}
-use Rattle.std.proofs.lemmas.Bool.Decides.{nat_tests}
-use Rattle.std.proofs.lemmas.List.{places, length-set, length-take, length-take-le, get_or-set_same}
-use Rattle.pe_core.specs.Directories.{absent_directory, present}
-use Rattle.pe_core.specs.Header.{HeaderView, OptionalHeaderView, directories_offset, header_at}
-use Rattle.pe_core.specs.Offsets.{empty_range}
-use Rattle.pe_core.specs.Records.{data_directory}
-use Rattle.pe_core.specs.Refusals.{Refusal, Short, ◌>>=◌}
-use Rattle.pe_core.specs.SectionMap.{rounded_up}
-use Rattle.pe_core.specs.Sections.{sections_offset}
-use Rattle.pe_core.specs.declared.byte_range.ByteRange.{ByteRange}
-use Rattle.pe_core.specs.declared.data_directories.DataDirectory.{DataDirectory}
-use Rattle.pe_core.specs.declared.options.ParseMode.{ParseMode}
-use Rattle.pe_sign.specs.Attaching.{unsigned_length, unsigned_file, padded, kept_length, table_start, entry_to, joined_file, attached_of, detached_of, with_both_fields, with_table, without_table, before_table}
-use Rattle.pe_sign.specs.AttachingSteps.{Fits}
-use Rattle.pe_sign.specs.Checksum.{checksum_of}
-use Rattle.pe_sign.specs.Digest.{Covered, certificates_range, covered, covered_bytes, digest_of, entry_range, is_in, left_out_before, left_out_of}
-use Rattle.pe_sign.specs.WrittenHeaders.{optional_with, headers_with, directories_end_after, directories_end}
-use Rattle.pe_sign.specs.declared.attachment.Placement.{Placement}
-use Rattle.pe_sign.specs.declared.digest.LeftOut.{LeftOut}
 use Rattle.pe_sign.proofs.Agreement.{Agree}
 use Rattle.pe_sign.proofs.Detaching.{attached_sum, detached_again_of, detached_sum, holds_start}
 use Rattle.pe_sign.proofs.Digests.{Holds, agree_fields, in_fields, holds_joined, holds_more, holds_unsigned, range_below, range_past}
@@ -32,41 +19,18 @@ use Rattle.pe_sign.proofs.Writes.{kept_holds, length-detached, length-kept, leng
 
 -- ---- the entry is one of the directories
 
-entry_within : (t w : Bool) (n p : ℕ) → nat_lt 4 n ≡ t → (if t then record { offset = p + 24 + directories_offset w + 32; length = 8 } else empty_range).length ≡ 8 →
-    (if t then record { offset = p + 24 + directories_offset w + 32; length = 8 } else empty_range).offset + 8 ≤ p + 24 + directories_offset w + 8 * n
-entry_within false w n p e h = absurd (omega (arith, h))
-entry_within true w n p e h = let many : 4 < n = grind (arith, nat_tests) in omega arith
-
 abbrev EndsBy : {R : Type 0} → ℕ → Result LeftOut R → Type 0
 EndsBy n (Ok l) = l.directory_entry.length ≡ 8 → l.directory_entry.offset + 8 ≤ n
 EndsBy n (Err r) = Unit {0}
 
-ends_before : (p : ℕ) (o : Option OptionalHeaderView) → EndsBy (directories_end_after p o) (left_out_before p o)
-ends_before p None = tt
-ends_before p (Some o) = λ e. entry_within (nat_lt 4 (length o.data_directories)) (o.standard_fields.magic == 0x20B) (length o.data_directories) p refl e
-
 pub entry_ends : (h : HeaderView) (l : LeftOut) → left_out_of h ≡ Ok l → l.directory_entry.length ≡ 8 → l.directory_entry.offset + 8 ≤ directories_end h
-entry_ends h l e = subst (λ (r : Result LeftOut Refusal). EndsBy (directories_end h) r) e (ends_before h.dos_header.pe_pointer h.optional_header)
+entry_ends h l e i = grind (arith, nat_tests)
 
 -- ---- what stays
 
-in_neither : (l : LeftOut) (k : ℕ) → is_in l.checksum k ≡ false → is_in l.directory_entry k ≡ false → in_fields l k ≡ false
-in_neither l k h i = ap (λ t. t || is_in l.directory_entry k) h ∙ i
-
 pub stays_if : (l : LeftOut) (f x b : List ℕ) (n : ℕ) → l.checksum.length ≡ 4 → l.directory_entry.length ≡ 8 → l.checksum.offset + 4 ≤ l.directory_entry.offset → l.directory_entry.offset + 8 ≤ n →
     Agree (in_fields l) f x → n ≤ length x → n ≤ length b → ((k : ℕ) → k < n → get_or x k 0 ≡ get_or b k 0) → Stays f b l.checksum.offset l.directory_entry.offset n
-stays_if l f x b n four eight apart within a h i same =
-    let c : ℕ = l.checksum.offset in
-    let e : ℕ = l.directory_entry.offset in
-    record {
-      apart = apart;
-      entry = within;
-      inside = omega (arith, h, a.count);
-      inside_before = i;
-      before = λ k lt. a.same k (in_neither l k (range_below c l.checksum.length k lt) (range_below e l.directory_entry.length k (omega arith))) ∙ same k (omega arith);
-      between = λ k from lt. a.same k (in_neither l k (range_past c l.checksum.length k (omega (arith, four))) (range_below e l.directory_entry.length k lt)) ∙ same k (omega arith);
-      after = λ k from lt. a.same k (in_neither l k (range_past c l.checksum.length k (omega (arith, four))) (range_past e l.directory_entry.length k (omega (arith, eight)))) ∙ same k lt;
-    }
+stays_if l f x b n four eight apart within a h i same = grind (arith, range_below, range_past)
 
 -- the bytes before what is added
 pub front_same : (x y : List ℕ) (k : ℕ) → k < length x → get_or (padded x ++ y) k 0 ≡ get_or x k 0
@@ -154,28 +118,14 @@ abbrev with_range : LeftOut → ByteRange → LeftOut
 with_range l r = record { checksum = l.checksum; directory_entry = l.directory_entry; certificates = r }
 
 pub many_of : (t w : Bool) (n p : ℕ) → nat_lt 4 n ≡ t → (if t then record { offset = p + 24 + directories_offset w + 32; length = 8 } else empty_range).length ≡ 8 → 4 < n
-many_of false w n p e h = absurd (omega (arith, h))
-many_of true w n p e h = grind (arith, nat_tests)
-
-parts_of : (p : ℕ) (o : OptionalHeaderView) (entry : DataDirectory) (sum : ℕ) → 4 < length o.data_directories →
-    left_out_before p (Some (optional_with entry sum o)) ≡ Ok (with_range (record { checksum = record { offset = p + 88; length = 4 }; directory_entry = entry_range p o; certificates = empty_range }) (named entry))
-parts_of p o entry sum many =
-    rw (length-set o.data_directories 4 entry, get_or-set_same o.data_directories 4 entry absent_directory many) refl
+many_of t w n p e h = grind (arith, nat_tests)
 
 parts_with : (p : ℕ) (o : Option OptionalHeaderView) (l : LeftOut) (entry : DataDirectory) (sum : ℕ) → left_out_before p o ≡ Ok l → l.directory_entry.length ≡ 8 →
     left_out_before p (option_map (optional_with entry sum) o) ≡ Ok (with_range l (named entry))
-parts_with p None l entry sum e h = absurd cc
-parts_with p (Some o) l entry sum e h =
-    let w : Bool = o.standard_fields.magic == 0x20B in
-    let is : record { checksum = record { offset = p + 88; length = 4 }; directory_entry = entry_range p o; certificates = certificates_range (present o.data_directories 4) } ≡ l = cc in
-    subst (λ (k : LeftOut). k.directory_entry.length ≡ 8 → left_out_before p (Some (optional_with entry sum o)) ≡ Ok (with_range k (named entry))) is
-    (λ eight. parts_of p o entry sum (many_of (nat_lt 4 (length o.data_directories)) w (length o.data_directories) p refl eight)) h
+parts_with p o l entry sum e h = grind (arith, many_of, length-set, get_or-set_same)
 
 some_entry : (start size : ℕ) → 0 < start → (start == 0 && size == 0) ≡ false
 some_entry start size h = grind (arith, nat_tests)
-
-named_table : (start end : ℕ) → 0 < start → named (entry_to start end) ≡ record { offset = start; length = end - start }
-named_table start end h = rw (some_entry start (end - start) h) refl
 
 pub attached_parts : (placement : Placement) (b : List ℕ) (h : HeaderView) (c f : List ℕ) (l : LeftOut) (sum : ℕ) → left_out_of h ≡ Ok l → attached_of placement b h c ≡ Ok f →
     left_out_of (headers_with (entry_to (table_start placement l (length b)) (length f)) sum h) ≡ Ok (with_table l (table_start placement l (length b)) (length f))
@@ -184,7 +134,7 @@ attached_parts placement b h c f l sum e i =
     let start : ℕ = table_start placement l (length b) in
     let holds : Holds l start = holds_start placement l b is.fits in
     parts_with h.dos_header.pe_pointer h.optional_header l (entry_to start (length f)) sum e is.fits.entry_size
-    ∙ ap (λ (r : ByteRange). Ok (with_range l r)) (named_table start (length f) (omega (arith, holds.checksum)))
+    ∙ ap (λ (r : ByteRange). Ok (with_range l r)) (rw (some_entry start ((length f) - start) (omega (arith, holds.checksum))) refl)
 
 pub detached_parts : (b : List ℕ) (h : HeaderView) (f : List ℕ) (l : LeftOut) (sum : ℕ) → left_out_of h ≡ Ok l → detached_of b h ≡ Ok f → left_out_of (headers_with absent_directory sum h) ≡ Ok (without_table l)
 detached_parts b h f l sum e i =
@@ -227,8 +177,7 @@ attached_digest_parsed mode placement b h k certificate f l c d e i j room m x y
 
 pub detached_digest_parsed : (mode : ParseMode) (b : List ℕ) (h k : HeaderView) (f : List ℕ) (l : LeftOut) → header_at b mode ≡ Ok h → left_out_of h ≡ Ok l → detached_of b h ≡ Ok f →
     directories_end h ≤ unsigned_length l (length b) → header_at f mode ≡ Ok k → digest_of f k ≡ digest_of b h
-detached_digest_parsed mode b h k f l e i j room m =
-    digest_by f k (without_table l) (detached_parsed mode b h k f l e i j room m) ∙ ap (λ (z : Covered). Ok z) (detached_digest_of b h f l i j) ∙ sym (digest_by b h l i)
+detached_digest_parsed mode b h k f l e i j room m = grind (arith, digest_by, detached_parsed, detached_digest_of)
 
 -- ---- directories that stay
 
@@ -240,6 +189,4 @@ attached_keeps placement b h c f l e i small =
     omega (arith, before, kept_holds placement l (length b) is.fits)
 
 pub detached_keeps : (b : List ℕ) (h : HeaderView) (f : List ℕ) (l : LeftOut) → left_out_of h ≡ Ok l → detached_of b h ≡ Ok f → directories_end h ≤ sections_offset h → directories_end h ≤ unsigned_length l (length b)
-detached_keeps b h f l e i small =
-    let before : sections_offset h ≤ unsigned_length l (length b) = headers_before b h l (bare_image_at b h f l e i) in
-    omega (arith, before)
+detached_keeps b h f l e i small = grind (arith, headers_before, bare_image_at)

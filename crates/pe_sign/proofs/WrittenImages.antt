@@ -1,13 +1,8 @@
 -- What the calls return, by the parts of the image.
-use Rattle.std.proofs.Common.{◌≡◌, ℕ, Bool, List, length, Result, Ok, Err, refl, ap, sym, ◌∙◌, subst}
-use Rattle.pe_sign.specs.Attaching.{changeable_parts, attach_tests, table_start, attached_of, attached_file, detached_of, detached_file, with_table, without_table}
-use Rattle.pe_sign.specs.AttachingSteps.{Fits}
-use Rattle.pe_sign.specs.Digest.{covered, covered_bytes, left_out_of}
-use Rattle.pe_core.specs.Refusals.{outcome, ◌>>=◌}
-use Rattle.pe_core.specs.Header.{HeaderView}
-use Rattle.pe_sign.specs.SignRefusals.{SignRefusal}
-use Rattle.pe_sign.specs.declared.attachment.Placement.{Placement}
-use Rattle.pe_sign.specs.declared.digest.LeftOut.{LeftOut}
+use Rattle.std.proofs.Common.{◌≡◌, ℕ, Bool, List, length, Result, Ok, ap, ◌∙◌, subst, arith}
+use Rattle.pe_sign.proofs.Cited.{changeable_parts, attach_tests, table_start, attached_of, attached_file, detached_of}
+use Rattle.pe_sign.proofs.Cited.{detached_file, with_table, without_table, Fits, covered, covered_bytes, left_out_of, outcome}
+use Rattle.pe_sign.proofs.Cited.{◌>>=◌, HeaderView, SignRefusal, Placement, LeftOut}
 use Rattle.pe_sign.proofs.Digests.{attached_digest, detached_digest}
 use Rattle.pe_sign.proofs.Tests.{value_is, image_fits, parts_of_image}
 
@@ -21,12 +16,10 @@ same_parts b h k l e i = let j : left_out_of h ≡ Ok k = (parts_of_image b h k 
 
 pub file_at : (x : Result LeftOut SignRefusal) (tests : LeftOut → List (Bool × SignRefusal)) (g : LeftOut → List ℕ) (f : List ℕ) →
     (x >>= λ k. outcome (tests k) (g k)) ≡ Ok f → (k : LeftOut) × ((x ≡ Ok k) × (f ≡ g k))
-file_at (Err e) tests g f h = absurd cc
-file_at (Ok k) tests g f h = (k, (refl, sym (value_is (tests k) (g k) f h)))
+file_at x tests g f h = grind (arith, value_is)
 
 bare_at : (x : Result LeftOut SignRefusal) (g : LeftOut → List ℕ) (f : List ℕ) → (x >>= λ k. Ok (g k)) ≡ Ok f → (k : LeftOut) × ((x ≡ Ok k) × (f ≡ g k))
-bare_at (Err e) g f h = absurd cc
-bare_at (Ok k) g f h = let same : g k ≡ f = cc in (k, (refl, sym same))
+bare_at x g f h = grind arith
 
 pub attached_is : (placement : Placement) (b : List ℕ) (h : HeaderView) (c f : List ℕ) (l : LeftOut) → left_out_of h ≡ Ok l → attached_of placement b h c ≡ Ok f → IsFile l b f (attached_file placement l c b)
 attached_is placement b h c f l e i =
@@ -44,18 +37,10 @@ attached_from placement b h c f i =
     (p.0, (parts_of_image b h p.0 p.1.0).0)
 
 pub detached_is : (b : List ℕ) (h : HeaderView) (f : List ℕ) (l : LeftOut) → left_out_of h ≡ Ok l → detached_of b h ≡ Ok f → IsFile l b f (detached_file l b)
-detached_is b h f l e i =
-    let p = bare_at (changeable_parts b h) (λ k. detached_file k b) f i in
-    let same : p.0 ≡ l = same_parts b h p.0 l p.1.0 e in
-    record {
-      fits = subst (λ (k : LeftOut). Fits k (length b)) same (image_fits b h p.0 p.1.0);
-      is_file = p.1.1 ∙ ap (λ (k : LeftOut). detached_file k b) same;
-    }
+detached_is b h f l e i = grind (arith, bare_at, same_parts, image_fits)
 
 pub bare_image_at : (b : List ℕ) (h : HeaderView) (f : List ℕ) (l : LeftOut) → left_out_of h ≡ Ok l → detached_of b h ≡ Ok f → changeable_parts b h ≡ Ok l
-bare_image_at b h f l e i =
-    let p = bare_at (changeable_parts b h) (λ k. detached_file k b) f i in
-    p.1.0 ∙ ap (λ (k : LeftOut). Ok k) (same_parts b h p.0 l p.1.0 e)
+bare_image_at b h f l e i = grind (arith, bare_at, same_parts)
 
 pub attached_digest_of : (placement : Placement) (b : List ℕ) (h : HeaderView) (c f : List ℕ) (l : LeftOut) → left_out_of h ≡ Ok l → attached_of placement b h c ≡ Ok f →
     covered_bytes (covered (with_table l (table_start placement l (length b)) (length f)) f) ≡ covered_bytes (covered l b)

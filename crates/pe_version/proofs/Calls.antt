@@ -1,15 +1,10 @@
 -- What the calls write and return.
-use Rattle.std.proofs.Common.{◌≡◌, ℕ, ◌+◌, ◌-◌, ◌<◌, ◌≤◌, Bool, true, false, List, [], ◌∷◌, ◌++◌, length, replicate, Result, Ok, Err, refl, ap, sym, ◌∙◌, arith, length-append}
-use Rattle.std.specs.Prelude.{nat_le}
-use Rattle.std.proofs.lemmas.Bool.Decides.{nat_tests}
-use Rattle.std.proofs.lemmas.List.{length-replicate}
-use Rattle.pe_core.specs.Bytes.{bytes_of, fit_at, splice}
-use Rattle.pe_core.specs.Refusals.{Refusal, WriteFit, outcome}
-use Rattle.pe_core.proofs.Splices.{length-bytes_of, splice-splice}
-use Rattle.pe_resource.specs.VersionStrings.{up_to_four}
-use Rattle.pe_edit.proofs.Writing.{Written, last_written, more_written, nothing_written}
-use Rattle.pe_version.specs.VersionRefusals.{VersionRefusal, Image, block_of, block_tests, length_of, parts_of, written}
-use Rattle.pe_version.specs.WrittenBlocks.{BlockValue, Fits, before_others, block_bytes, block_length, children_start, padded_block, padded_length, type_number, value_length, value_start}
+use Rattle.std.proofs.Common.{◌≡◌, ℕ, ◌+◌, ◌-◌, ◌<◌, ◌≤◌, Bool, true, false, List, [], ◌∷◌, ◌++◌, length, replicate, Result, Ok, Err, refl, ap, sym, ◌∙◌, arith, length-append, rules}
+use Rattle.pe_version.proofs.Cited.{nat_le, nat_tests, length-replicate, bytes_of, fit_at, splice, Refusal, WriteFit, outcome}
+use Rattle.pe_version.proofs.Cited.{length-bytes_of, splice-splice, up_to_four, Written, last_written, more_written}
+use Rattle.pe_version.proofs.Cited.{nothing_written, VersionRefusal, Image, block_of, block_tests, length_of, parts_of, written}
+use Rattle.pe_version.proofs.Cited.{BlockValue, Fits, before_others, block_bytes, block_length, children_start, padded_block}
+use Rattle.pe_version.proofs.Cited.{padded_length, type_number, value_length, value_start}
 use Rattle.pe_version.specs.declared.block.Parts.{Parts}
 use Rattle.pe_version.proofs.Blocks as blocks
 use Rattle.pe_version.proofs.Tests.{fits_if, value_is}
@@ -49,9 +44,7 @@ unfolding padded_block
 padded_size k f = length-append (block_bytes k) (replicate (padded_length k - block_length k) 0) ∙ omega (arith, bytes_length k f, length-replicate {A = ℕ} (padded_length k - block_length k) 0)
 
 pub length_returned : (k : BlockValue) (p : Parts) (n : ℕ) → outcome (block_tests k) (parts_of k) ≡ Ok p → n ≡ up_to_four p.end → length_of (block_of k) ≡ Ok n
-length_returned k p n e is =
-    ap (λ (r : Result (List ℕ) VersionRefusal). length_of r) (made k p e)
-    ∙ ap (λ (m : ℕ). Ok m) (padded_size k (fits k p e) ∙ ap (λ (m : ℕ). up_to_four m) (sym (end_is k p e)) ∙ sym is)
+length_returned k p n e is = grind (arith, made k p e, padded_size k (fits k p e), end_is k p e, is)
 
 pub length_refused : (k : BlockValue) (r : VersionRefusal) → outcome (block_tests k) (parts_of k) ≡ Err r → length_of (block_of k) ≡ Err r
 length_refused k r e = ap (λ (x : Result (List ℕ) VersionRefusal). length_of x) (other_refused (block_tests k) (parts_of k) (padded_block k) r e)
@@ -62,12 +55,10 @@ written_refused k old r e = ap (λ (x : Result (List ℕ) VersionRefusal). writt
 -- ---- the buffer
 
 pub too_small : (t : Bool) (r : Refusal) (x : ℕ × List ℕ) → outcome {Y = Unit {0}} ((t, WriteFit) ∷ []) tt ≡ Err r → outcome ((t, Image WriteFit) ∷ []) x ≡ Err (Image r)
-too_small true r x h = absurd cc
-too_small false r x h = let same : WriteFit ≡ r = cc in ap (λ k. Err (Image k)) same
+too_small t r x h = grind arith
 
 pub room_enough : (t : Bool) (x : ℕ × List ℕ) (u : Unit {0}) → outcome {Y = Unit {0}} ((t, WriteFit) ∷ []) tt ≡ Ok u → outcome ((t, Image WriteFit) ∷ []) x ≡ Ok x
-room_enough true x u h = refl
-room_enough false x u h = absurd cc
+room_enough t x u h = grind arith
 
 pub fit_of : (f old : List ℕ) (n : ℕ) (r : Result (Unit {0}) Refusal) → length f ≡ n → fit_at old 0 n ≡ r → outcome {Y = Unit {0}} ((nat_le (length f) (length old), WriteFit) ∷ []) tt ≡ r
 fit_of f old n r same h = let start : 0 + n ≡ length f = omega (arith, same) in rw start at h
@@ -81,8 +72,7 @@ room_short k p old n r e is h =
     ap (λ (x : Result (List ℕ) VersionRefusal). written x old) (made k p e) ∙ too_small (nat_le (length f) (length old)) r (length f, splice old 0 f) (fit_of f old n (Err r) (size_is k p n e is) h)
 
 pub fits_by : (t : Bool) (u : Unit {0}) → outcome {Y = Unit {0}} ((t, WriteFit) ∷ []) tt ≡ Ok u → t ≡ true
-fits_by true u h = refl
-fits_by false u h = absurd cc
+fits_by t u h = grind arith
 
 -- the zeros after the block
 padded_set : (k : BlockValue) (old one two : List ℕ) → Fits k → one ≡ splice old 0 (block_bytes k) → two ≡ splice one (block_length k) (replicate (padded_length k - block_length k) 0) → two ≡ splice old 0 (padded_block k)
@@ -133,22 +123,11 @@ block_set k old n1 n2 n3 n4 n5 n6 n7 n8 room size e1 e2 e3 e4 e5 e6 e7 e8 =
     last_written old n7 n8 0 (children_start k) x1 x8 w7 e8
 
 pub room_inside : (k : BlockValue) (p : Parts) (old : List ℕ) (n : ℕ) (u : Unit {0}) → outcome (block_tests k) (parts_of k) ≡ Ok p → n ≡ up_to_four p.end → fit_at old 0 n ≡ Ok u → block_length k ≤ length old
-room_inside k p old n u e is h =
-    let held : nat_le (0 + n) (length old) ≡ true = fits_by (nat_le (0 + n) (length old)) u h in
-    let room : n ≤ length old = grind (arith, nat_tests, held) in
-    omega (arith, room, is, end_is k p e)
+room_inside k p old n u e is h = search (rules, arith, fits_by, nat_tests, end_is)
 
 -- the same by the parts that the code has
 pub block_set_by : (k : BlockValue) (p : Parts) (old n1 n2 n3 n4 n5 n6 n7 n8 : List ℕ) (v : ℕ) → p ≡ parts_of k → Fits k → block_length k ≤ length old → v ≡ value_length k →
     n1 ≡ splice old 0 (bytes_of 2 p.end) → n2 ≡ splice n1 2 (bytes_of 2 v) → n3 ≡ splice n2 4 (bytes_of 2 (type_number k.is_text)) → n4 ≡ splice n3 6 k.key →
     n5 ≡ splice n4 (6 + length k.key) (replicate (p.value - (6 + length k.key)) 0) → n6 ≡ splice n5 p.value k.value →
     n7 ≡ splice n6 (p.value + length k.value) (replicate (p.children - (p.value + length k.value)) 0) → n8 ≡ splice n7 p.children k.children → n8 ≡ splice old 0 (block_bytes k)
-block_set_by k p old n1 n2 n3 n4 n5 n6 n7 n8 v is f room length_is e1 e2 e3 e4 e5 e6 e7 e8 =
-    let end : p.end ≡ block_length k = ap (λ (q : Parts). q.end) is in
-    let value : p.value ≡ value_start k = ap (λ (q : Parts). q.value) is in
-    let children : p.children ≡ children_start k = ap (λ (q : Parts). q.children) is in
-    block_set k old n1 n2 n3 n4 n5 n6 n7 n8 room (bytes_length k f)
-    (e1 ∙ ap (λ (m : ℕ). splice old 0 (bytes_of 2 m)) end) (e2 ∙ ap (λ (m : ℕ). splice n1 2 (bytes_of 2 m)) length_is) e3 e4
-    (e5 ∙ ap (λ (m : ℕ). splice n4 (6 + length k.key) (replicate (m - (6 + length k.key)) 0)) value) (e6 ∙ ap (λ (m : ℕ). splice n5 m k.value) value)
-    (e7 ∙ ap (λ (m : ℕ). splice n6 (m + length k.value) (replicate (p.children - (m + length k.value)) 0)) value ∙ ap (λ (m : ℕ). splice n6 (value_start k + length k.value) (replicate (m - (value_start k + length k.value)) 0)) children)
-    (e8 ∙ ap (λ (m : ℕ). splice n7 m k.children) children)
+block_set_by k p old n1 n2 n3 n4 n5 n6 n7 n8 v is f room length_is e1 e2 e3 e4 e5 e6 e7 e8 = grind (arith, block_set, bytes_length)

@@ -1,17 +1,13 @@
 -- Blocks that are written one inside the other: what a block has first, then its head.
-use Rattle.std.proofs.Common.{◌≡◌, ℕ, zero, suc, ◌+◌, ◌-◌, ◌*◌, ◌/◌, ◌%◌, ◌<◌, ◌≤◌, Bool, true, false, List, [], ◌∷◌, ◌++◌, length, map, take, drop, get_or, replicate, refl, ap, sym, ◌∙◌, subst, arith, length-append, length-take}
-use Rattle.std.specs.Prelude.{codes}
-use Rattle.std.specs.List.{flat_map}
-use Rattle.std.proofs.lemmas.List.{append-nil, append_assoc, drop_all, drop_at, drop_more, length-replicate, take-append-le, take-take}
-use Rattle.pe_core.specs.Bytes.{bytes_of, splice}
-use Rattle.pe_core.proofs.Splices.{length-bytes_of, splice-splice}
-use Rattle.pe_resource.specs.VersionStrings.{up_to_four}
-use Rattle.pe_edit.proofs.Writing.{Written, all_written, last_written, more_written, nothing_written, room_for}
-use Rattle.pe_version.specs.VersionRecords.{head_bytes}
-use Rattle.pe_version.specs.WrittenBlocks.{AllFit, BlockValue, Fits, before_others, block_bytes, block_length, blocks_bytes, padded_block, padded_length, type_number, value_length, value_start}
+use Rattle.std.proofs.Common.{◌≡◌, ℕ, zero, suc, ◌+◌, ◌-◌, ◌*◌, ◌/◌, ◌%◌, ◌<◌, ◌≤◌, Bool, true, false, List, [], ◌∷◌, ◌++◌, length, map, drop, get_or, replicate, refl, ap, sym, ◌∙◌, subst, arith, length-append, length-take}
+use Rattle.pe_version.proofs.Cited.{codes, flat_map, append-nil, append_assoc, drop_all, drop_at, drop_more, length-replicate}
+use Rattle.pe_version.proofs.Cited.{take-append-le, take-take, bytes_of, splice, length-bytes_of, splice-splice, up_to_four}
+use Rattle.pe_version.proofs.Cited.{Written, all_written, last_written, more_written, nothing_written, room_for, head_bytes, AllFit}
+use Rattle.pe_version.proofs.Cited.{BlockValue, Fits, block_bytes, block_length, blocks_bytes, padded_block, padded_length}
+use Rattle.pe_version.proofs.Cited.{type_number, value_length, TableValue, TextValue, Value, all_blocks, blocks_of_table}
+use Rattle.pe_version.proofs.Cited.{fixed_bytes, parent, root_block, strings_block, table_block, table_blocks, text_block}
+use Rattle.pe_version.proofs.Cited.{text_blocks, translation_block, translation_bytes, utf16, variables_block, Translation}
 use Rattle.pe_version.proofs.Calls.{padded_size}
-use Rattle.pe_version.specs.VersionValues.{TableValue, TextValue, Value, all_blocks, blocks_of_table, fixed_bytes, parent, root_block, strings_block, table_block, table_blocks, text_block, text_blocks, translation_block, translation_bytes, utf16, variables_block}
-use Rattle.pe_resource.specs.declared.version_block.Translation.{Translation}
 use Rattle.pe_version.proofs.Flat.{length_blocks}
 use Rattle.pe_version.proofs.Measures.{before_four, length_fixed, length_pairs}
 use Rattle.pe_version.proofs.VersionsRead.{left_fit, table_blocks_fit, tables_fit}
@@ -20,12 +16,7 @@ use Rattle.pe_version.proofs.VersionsRead.{left_fit, table_blocks_fit, tables_fi
 
 pub length_head : (size value : ℕ) (t : Bool) (key : List ℕ) → length (head_bytes size value t key) ≡ up_to_four (8 + length key)
 unfolding head_bytes
-length_head size value t key =
-    let z : ℕ = up_to_four (8 + length key) - (6 + length key) in
-    let x4 : List ℕ = key ++ replicate z 0 in
-    let x3 : List ℕ = bytes_of 2 (type_number t) ++ x4 in
-    let x2 : List ℕ = bytes_of 2 value ++ x3 in
-    omega (arith, length-append (bytes_of 2 size) x2, length-append (bytes_of 2 value) x3, length-append (bytes_of 2 (type_number t)) x4, length-append key (replicate z 0), length-replicate {A = ℕ} z 0, length-bytes_of 2 size, length-bytes_of 2 value, length-bytes_of 2 (type_number t))
+length_head size value t key = grind (arith, length-append, length-replicate, length-bytes_of)
 
 pub head_set : (old n1 n2 n3 n4 n5 key : List ℕ) (at size value w none : ℕ) (t : Bool) → at + up_to_four (8 + length key) ≤ length old → w ≡ type_number t → none ≡ up_to_four (8 + length key) - (6 + length key) →
     n1 ≡ splice old at (bytes_of 2 size) → n2 ≡ splice n1 (at + 2) (bytes_of 2 value) → n3 ≡ splice n2 (at + 4) (bytes_of 2 w) → n4 ≡ splice n3 (at + 6) key → n5 ≡ splice n4 (at + (6 + length key)) (replicate none 0) →
@@ -49,54 +40,16 @@ head_set old n1 n2 n3 n4 n5 key at size value w none t room type is e1 e2 e3 e4 
 four : (n : ℕ) → up_to_four n % 4 ≡ 0
 four n = omega arith
 
-after_value : (n : ℕ) (c : List ℕ) → length c % 4 ≡ 0 → (s : ℕ) → s % 4 ≡ 0 → (v : List ℕ) → length v ≡ n →
-    (v ++ (replicate (before_others n c - n) 0 ++ c)) ++ replicate (up_to_four (s + before_others n c + length c) - (s + before_others n c + length c)) 0 ≡ v ++ (replicate (up_to_four n - n) 0 ++ c)
-after_value n [] e s f v size =
-    let none : n - n ≡ 0 = omega arith in
-    let same : up_to_four (s + n + 0) - (s + n + 0) ≡ up_to_four n - n = omega (arith, f) in
-    rw (none, same) (append_assoc v [] (replicate (up_to_four n - n) 0) ∙ ap (λ (l : List ℕ). v ++ l) (sym (append-nil (replicate (up_to_four n - n) 0))))
-after_value n (x ∷ xs) e s f v size =
-    let c : List ℕ = x ∷ xs in
-    let none : up_to_four (s + up_to_four n + length c) - (s + up_to_four n + length c) ≡ 0 = omega (arith, e, f, four n) in
-    rw none (append-nil (v ++ (replicate (up_to_four n - n) 0 ++ c)))
-
 pub by_head : (k : BlockValue) → length k.children % 4 ≡ 0 → padded_block k ≡ head_bytes (block_length k) (value_length k) k.is_text k.key ++ (k.value ++ (replicate (up_to_four (length k.value) - length k.value) 0 ++ k.children))
 unfolding padded_block block_bytes head_bytes
-by_head k e =
-    let a : List ℕ = bytes_of 2 (block_length k) in
-    let b : List ℕ = bytes_of 2 (value_length k) in
-    let t : List ℕ = bytes_of 2 (type_number k.is_text) in
-    let z : List ℕ = replicate (value_start k - (6 + length k.key)) 0 in
-    let old : List ℕ = k.value ++ (replicate (before_others (length k.value) k.children - length k.value) 0 ++ k.children) in
-    let last : List ℕ = replicate (padded_length k - block_length k) 0 in
-    let new : List ℕ = k.value ++ (replicate (up_to_four (length k.value) - length k.value) 0 ++ k.children) in
-    let same : old ++ last ≡ new = after_value (length k.value) k.children e (value_start k) (four (8 + length k.key)) k.value refl in
-    append_assoc a (b ++ (t ++ (k.key ++ (z ++ old)))) last
-    ∙ ap (λ (l : List ℕ). a ++ l) (append_assoc b (t ++ (k.key ++ (z ++ old))) last)
-    ∙ ap (λ (l : List ℕ). a ++ (b ++ l)) (append_assoc t (k.key ++ (z ++ old)) last)
-    ∙ ap (λ (l : List ℕ). a ++ (b ++ (t ++ l))) (append_assoc k.key (z ++ old) last)
-    ∙ ap (λ (l : List ℕ). a ++ (b ++ (t ++ (k.key ++ l)))) (append_assoc z old last)
-    ∙ ap (λ (l : List ℕ). a ++ (b ++ (t ++ (k.key ++ (z ++ l))))) same
-    ∙ sym (append_assoc a (b ++ (t ++ (k.key ++ z))) new
-    ∙ ap (λ (l : List ℕ). a ++ l) (append_assoc b (t ++ (k.key ++ z)) new)
-    ∙ ap (λ (l : List ℕ). a ++ (b ++ l)) (append_assoc t (k.key ++ z) new)
-    ∙ ap (λ (l : List ℕ). a ++ (b ++ (t ++ l))) (append_assoc k.key z new))
+by_head k e = grind (arith, four, append_assoc, append-nil)
 
 -- ---- what stands behind is written first
 
 pub inside_out : (old one two h c : List ℕ) (at mid : ℕ) → mid ≡ at + length h → mid + length c ≤ length old → one ≡ splice old mid c → two ≡ splice one at h → two ≡ splice old at (h ++ c)
 unfolding splice
 inside_out old one two h c at mid is room e f =
-    let tail : List ℕ = c ++ drop (mid + length c) old in
-    let size : length (take mid old) ≡ mid = length-take mid old ∙ omega (arith, room) in
-    let front : take at (take mid old ++ tail) ≡ take at old = take-append-le at (take mid old) tail (omega (arith, size, is)) ∙ take-take at mid old (omega (arith, is)) in
-    let back : drop (at + length h) (take mid old ++ tail) ≡ tail = ap (λ (n : ℕ). drop n (take mid old ++ tail)) (sym is) ∙ drop_at (take mid old) tail mid size in
-    let end : mid + length c ≡ at + length (h ++ c) = omega (arith, is, length-append h c) in
-    f ∙ ap (λ (b : List ℕ). take at b ++ (h ++ drop (at + length h) b)) e
-    ∙ ap (λ (l : List ℕ). l ++ (h ++ drop (at + length h) (take mid old ++ tail))) front
-    ∙ ap (λ (l : List ℕ). take at old ++ (h ++ l)) back
-    ∙ ap (λ (l : List ℕ). take at old ++ l) (sym (append_assoc h c (drop (mid + length c) old)))
-    ∙ ap (λ (n : ℕ). take at old ++ ((h ++ c) ++ drop n old)) end
+    grind (arith, length-take, take-append-le, take-take, drop_at, length-append, append_assoc)
 
 -- ---- elements, one after the other
 
@@ -127,9 +80,7 @@ pub put_all : {X : Type 0} (bytes : X → List ℕ) (old now : List ℕ) (at end
 put_all bytes old now at end i xs h w = all_written old now at end (flat_map bytes xs) (flat_map bytes (drop i xs)) (none_left bytes xs i h) w
 
 pub put_end : {X : Type 0} (bytes : X → List ℕ) (old now : List ℕ) (at end i : ℕ) (xs : List X) → length xs ≤ i → PutTo bytes old now at end i xs → end ≡ at + length (flat_map bytes xs)
-put_end bytes old now at end i xs h w =
-    let same : flat_map bytes xs ≡ w.done = w.joined ∙ ap (λ (l : List ℕ). w.done ++ l) (none_left bytes xs i h) ∙ append-nil w.done in
-    sym w.count ∙ ap (λ (l : List ℕ). at + length l) (sym same)
+put_end bytes old now at end i xs h w = grind (arith, none_left, append-nil)
 
 -- ---- strings and tables that fit
 
@@ -166,12 +117,7 @@ text_put s old one two three at start end room is up e f g =
 pub parent_put : (old one two key given c : List ℕ) (at mid size : ℕ) → length c % 4 ≡ 0 → given ≡ key → mid ≡ at + up_to_four (8 + length key) → mid + length c ≤ length old → size ≡ up_to_four (8 + length key) + length c →
     one ≡ splice old mid c → two ≡ splice one at (head_bytes size 0 true given) → two ≡ splice old at (padded_block (parent key c))
 parent_put old one two key given c at mid size four same is room long e f =
-    let k : BlockValue = parent key c in
-    let whole : size ≡ block_length k = omega (arith, long, before_four 0 c refl) in
-    let head : List ℕ = head_bytes (block_length k) 0 true key in
-    inside_out old one two head c at mid (omega (arith, is, length_head (block_length k) 0 true key)) room e
-    (f ∙ ap (λ (n : ℕ). splice one at (head_bytes n 0 true given)) whole ∙ ap (λ (l : List ℕ). splice one at (head_bytes (block_length k) 0 true l)) same)
-    ∙ ap (splice old at) (sym (by_head k four))
+    grind (arith, before_four, inside_out, length_head, by_head, four)
 
 pub texts_four : (ss : List TextValue) → AllFit (map text_block ss) → length (text_blocks ss) % 4 ≡ 0
 texts_four ss a = length_blocks (map text_block ss) a
@@ -179,30 +125,11 @@ texts_four ss a = length_blocks (map text_block ss) a
 pub tables_four : (ts : List TableValue) → AllFit (flat_map blocks_of_table ts) → length (table_blocks ts) % 4 ≡ 0
 tables_four ts a = length_blocks (map table_block ts) (table_blocks_fit ts (tables_fit ts a))
 
--- ---- languages and code pages
-
-pub pairs_put : (ps : List Translation) (old one two given : List ℕ) (at size : ℕ) → given ≡ utf16 (codes "Translation") → size ≡ 4 * length ps → at + 32 + size ≤ length old →
-    one ≡ splice old (at + 32) (flat_map translation_bytes ps) → two ≡ splice one at (head_bytes (32 + size) size false given) → two ≡ splice old at (padded_block (translation_block ps))
-pairs_put ps old one two given at size same is room e f =
-    let k : BlockValue = translation_block ps in
-    let v : List ℕ = flat_map translation_bytes ps in
-    let long : length v ≡ size = length_pairs ps ∙ sym is in
-    let whole : 32 + size ≡ block_length k = omega (arith, long) in
-    let none : up_to_four (length v) - length v ≡ 0 = omega (arith, long, is) in
-    let head : List ℕ = head_bytes (block_length k) (length v) false (utf16 (codes "Translation")) in
-    let by : padded_block k ≡ head ++ v = by_head k refl ∙ ap (λ (n : ℕ). head ++ (v ++ (replicate n 0 ++ []))) none ∙ ap (λ (l : List ℕ). head ++ l) (append-nil v) in
-    inside_out old one two head v at (at + 32) (omega (arith, length_head (block_length k) (length v) false (utf16 (codes "Translation")))) (omega (arith, room, long)) e
-    (f ∙ ap (λ (n : ℕ). splice one at (head_bytes n size false given)) whole ∙ ap (λ (n : ℕ). splice one at (head_bytes (block_length k) n false given)) (sym long) ∙ ap (λ (l : List ℕ). splice one at (head_bytes (block_length k) (length v) false l)) same)
-    ∙ ap (splice old at) (sym by)
-
 -- ---- numbers and pairs
 
 pub length_numbers : (ns : List ℕ) → length (flat_map (bytes_of 4) ns) ≡ 4 * length ns
 length_numbers [] = refl
 length_numbers (n ∷ ns) = length-append (bytes_of 4 n) (flat_map (bytes_of 4) ns) ∙ omega (arith, length-bytes_of 4 n, length_numbers ns)
-
-pub four_bytes : (t : Translation) → length (translation_bytes t) ≡ 4
-four_bytes t = length-append (bytes_of 2 t.language) (bytes_of 2 t.code_page) ∙ omega (arith, length-bytes_of 2 t.language, length-bytes_of 2 t.code_page)
 
 pub two_put : (b one two : List ℕ) (p x y : ℕ) → p ≤ length b → one ≡ splice b p (bytes_of 2 x) → two ≡ splice one (p + 2) (bytes_of 2 y) → two ≡ splice b p (bytes_of 2 x ++ bytes_of 2 y)
 two_put b one two p x y h e f =
@@ -219,9 +146,7 @@ table_texts t a = (left_fit (map text_block t.strings) (table_block t ∷ []) a)
 
 pub variables_length : (ps : List Translation) → Fits (translation_block ps) → block_length (variables_block ps) ≡ 64 + 4 * length ps
 unfolding blocks_bytes
-variables_length ps f =
-    let c : List ℕ = padded_block (translation_block ps) ++ [] in
-    omega (arith, before_four 0 c refl, ap length (append-nil (padded_block (translation_block ps))), padded_size (translation_block ps) f, length_pairs ps)
+variables_length ps f = grind (arith, before_four, append-nil, padded_size, length_pairs)
 
 pub variables_size : (ps : List Translation) → Fits (translation_block ps) → padded_length (variables_block ps) ≡ 64 + 4 * length ps
 variables_size ps f = omega (arith, variables_length ps f)
@@ -234,10 +159,7 @@ pub variables_put : (ps : List Translation) (old one two three inner outer : Lis
     three ≡ splice old at (padded_block (variables_block ps))
 unfolding blocks_bytes
 variables_put ps old one two three inner outer at size f i o is room e g h =
-    let k : List ℕ = padded_block (translation_block ps) in
-    let long : length (k ++ []) ≡ 32 + size = ap length (append-nil k) ∙ padded_size (translation_block ps) f ∙ omega (arith, length_pairs ps, is) in
-    let done : two ≡ splice old (at + 32) (k ++ []) = pairs_put ps old one two inner (at + 32) size i is (omega (arith, room)) e g ∙ ap (splice old (at + 32)) (sym (append-nil k)) in
-    parent_put old two three (utf16 (codes "VarFileInfo")) outer (k ++ []) at (at + 32) (64 + size) (omega (arith, long, is)) o refl (omega (arith, long, room)) (omega (arith, long)) done h
+    grind (arith, append-nil, padded_size, length_pairs, parent_put, by_head, inside_out, length_head)
 
 -- ---- all
 
@@ -250,21 +172,14 @@ pub record PartsFit (v : Value) : Type 0 where
 
 pub parts_fit : (v : Value) → AllFit (all_blocks v) → PartsFit v
 unfolding all_blocks
-parts_fit v a =
-    let p = left_fit (flat_map blocks_of_table v.tables) (strings_block v.tables ∷ translation_block v.translations ∷ variables_block v.translations ∷ root_block v ∷ []) a in
-    record { tables = p.0; strings = p.1.0; pairs = p.1.1.0; variables = p.1.1.1.0; root = p.1.1.1.1.0 }
+parts_fit v a = grind (arith, left_fit)
 
 children_size : (v : Value) → PartsFit v → length (padded_block (strings_block v.tables) ++ (padded_block (variables_block v.translations) ++ [])) ≡ padded_length (strings_block v.tables) + padded_length (variables_block v.translations)
-children_size v p =
-    let s : List ℕ = padded_block (strings_block v.tables) in
-    let w : List ℕ = padded_block (variables_block v.translations) in
-    length-append s (w ++ []) ∙ omega (arith, ap length (append-nil w), padded_size (strings_block v.tables) p.strings, padded_size (variables_block v.translations) p.variables)
+children_size v p = grind (arith, length-append, append-nil, padded_size)
 
 pub root_length : (v : Value) → PartsFit v → block_length (root_block v) ≡ 92 + (padded_length (strings_block v.tables) + padded_length (variables_block v.translations))
 unfolding root_block blocks_bytes
-root_length v p =
-    let c : List ℕ = padded_block (strings_block v.tables) ++ (padded_block (variables_block v.translations) ++ []) in
-    omega (arith, before_four 52 c refl, ap (λ (n : ℕ). before_others n c) (length_fixed v), children_size v p)
+root_length v p = grind (arith, before_four, length_fixed, children_size)
 
 pub root_size : (v : Value) → PartsFit v → padded_length (root_block v) ≡ 92 + (padded_length (strings_block v.tables) + padded_length (variables_block v.translations))
 root_size v p = omega (arith, root_length v p)

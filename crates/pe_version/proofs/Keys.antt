@@ -1,10 +1,6 @@
 -- The code units of a key, one more at a time.
 use Rattle.std.proofs.Common.{◌≡◌, ℕ, ◌+◌, ◌-◌, ◌<◌, ◌≤◌, ◌≢◌, ◌==◌, ◌&&◌, Bool, true, false, List, length, drop, ap, sym, ◌∙◌, arith, length-drop}
-use Rattle.std.specs.Prelude.{not}
-use Rattle.std.specs.List.{list_all}
-use Rattle.std.proofs.lemmas.Bool.Decides.{nat_tests}
-use Rattle.pe_core.specs.Bytes.{le}
-use Rattle.pe_resource.specs.VersionStrings.{units}
+use Rattle.pe_version.proofs.Cited.{not, list_all, nat_tests, le, units}
 use Rattle.pe_edit.proofs.Units.{short, units_at}
 
 abbrev pub all_some : List ℕ → Bool
@@ -14,14 +10,10 @@ unit_at : (b : List ℕ) (p : ℕ) → p + 2 ≤ length b → all_some (units (d
 unit_at b p h = ap all_some (units_at b p h)
 
 pub more_units : (b : List ℕ) (p : ℕ) → p + 2 ≤ length b → le b p 2 ≢ 0 → all_some (units (drop p b)) ≡ all_some (units b) → all_some (units (drop (p + 2) b)) ≡ all_some (units b)
-more_units b p h other e =
-    let t : (le b p 2 == 0) ≡ false = grind (arith, nat_tests, other) in
-    sym (unit_at b p h ∙ ap (λ (z : Bool). not z && all_some (units (drop (p + 2) b))) t) ∙ e
+more_units b p h other e = grind (arith, nat_tests, unit_at)
 
 pub unit_is_zero : (b : List ℕ) (p : ℕ) → p + 2 ≤ length b → le b p 2 ≡ 0 → all_some (units (drop p b)) ≡ all_some (units b) → all_some (units b) ≡ false
-unit_is_zero b p h is e =
-    let t : (le b p 2 == 0) ≡ true = grind (arith, nat_tests, is) in
-    sym e ∙ unit_at b p h ∙ ap (λ (z : Bool). not z && all_some (units (drop (p + 2) b))) t
+unit_is_zero b p h is e = grind (arith, nat_tests, unit_at)
 
 pub all_units : (b : List ℕ) (p : ℕ) → p ≤ length b → length b - p < 2 → all_some (units (drop p b)) ≡ all_some (units b) → all_some (units b) ≡ true
 all_units b p h i e = sym e ∙ ap all_some (short (drop p b) (omega (arith, length-drop p b, i)))

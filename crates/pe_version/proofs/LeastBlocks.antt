@@ -1,29 +1,17 @@
 -- What is written of records has at least their least bytes.
-use Rattle.std.proofs.Common.{◌≡◌, ℕ, zero, suc, ◌+◌, ◌≤◌, ◌&&◌, Bool, true, false, List, [], ◌∷◌, map, take, drop, length, Ok, refl, ap, ◌∙◌, arith, length-append}
-use Rattle.std.specs.Prelude.{flat_map, if◌then◌else◌, nat_le}
-use Rattle.std.specs.List.{list_all}
-use Rattle.std.proofs.lemmas.Bool.Decides.{nat_tests}
-use Rattle.std.proofs.lemmas.List.{places}
-use Rattle.pe_core.specs.Bytes.{holds, range}
-use Rattle.pe_edit.specs.Views.{part_of}
-use Rattle.pe_edit.specs.Written.{total}
+use Rattle.std.proofs.Common.{◌≡◌, ℕ, zero, suc, ◌≤◌, Bool, true, List, [], ◌∷◌, map, take, drop, length, Ok, refl, arith, length-append}
+use Rattle.pe_version.proofs.Cited.{nat_le, list_all, nat_tests, places, holds, part_of, total, VsFixedFileInfo, least_of_string}
+use Rattle.pe_version.proofs.Cited.{least_of_table, string_fits, strings_of, table_fits, table_of, text_of, value_at, version_at}
+use Rattle.pe_version.proofs.Cited.{Value, all_blocks, blocks_of_table, key_of, root_block, table_block, table_blocks, text_block}
+use Rattle.pe_version.proofs.Cited.{text_blocks, version_of, AllFit, BlockValue, blocks_bytes, padded_block, LanguageRecord}
+use Rattle.pe_version.proofs.Cited.{StringRecord, TableRecord, both}
+use Rattle.std.specs.Prelude.{flat_map}
 use Rattle.pe_edit.specs.declared.record.RecordRange.{RecordRange}
-use Rattle.pe_resource.specs.declared.version.VsFixedFileInfo.{VsFixedFileInfo}
-use Rattle.pe_version.specs.VersionRecords.{least_of_string, least_of_table, string_fits, strings_of, table_fits, table_of, text_of, value_at, version_at}
-use Rattle.pe_version.specs.VersionValues.{Value, all_blocks, blocks_of_table, key_of, root_block, table_block, table_blocks, text_block, text_blocks, version_of}
-use Rattle.pe_version.specs.WrittenBlocks.{AllFit, BlockValue, blocks_bytes, padded_block}
-use Rattle.pe_version.specs.declared.record.LanguageRecord.{LanguageRecord}
-use Rattle.pe_version.specs.declared.record.StringRecord.{StringRecord}
-use Rattle.pe_version.specs.declared.record.TableRecord.{TableRecord}
 use Rattle.pe_version.proofs.Calls.{padded_size}
 use Rattle.pe_version.proofs.Heads.{PartsFit, parts_fit, table_texts, table_whole}
 use Rattle.pe_version.proofs.VersionsRead.{all_fit, left_fit}
 
 -- ---- tests of each
-
-both : (a b : Bool) → (a && b) ≡ true → (a ≡ true) × (b ≡ true)
-both true b e = (refl, e)
-both false b e = absurd cc
 
 all_taken : {X : Type 0} (p : X → Bool) (n : ℕ) (xs : List X) → list_all p xs ≡ true → list_all p (take n xs) ≡ true
 all_taken p zero xs e = refl
@@ -37,20 +25,10 @@ all_dropped p zero xs e = e
 all_dropped p (suc n) [] e = refl
 all_dropped p (suc n) (x ∷ xs) e = all_dropped p n xs (both (p x) (list_all p xs) e).1
 
-strings_pass : (p : StringRecord → Bool) (rs : List StringRecord) (t : TableRecord) → list_all p rs ≡ true → list_all p (strings_of rs t) ≡ true
-strings_pass p rs t e = by (nat_le (t.first + t.count) (length rs))
-  where
-    by : (c : Bool) → list_all p (if c then take t.count (drop t.first rs) else []) ≡ true
-    by true = all_taken p t.count (drop t.first rs) (all_dropped p t.first rs e)
-    by false = refl
-
 -- ---- lengths
 
 part_length : (d : List ℕ) (r : RecordRange) → holds d r.offset r.length ≡ true → length (part_of d r) ≡ r.length
-part_length d r e =
-    let inside : r.offset + r.length ≤ length d = grind (arith, nat_tests, e) in
-    let there : part_of d r ≡ range d r.offset r.length = ap (λ (c : Bool). if c then range d r.offset r.length else []) e in
-    ap length there ∙ grind (arith, places, inside)
+part_length d r e = grind (arith, nat_tests, places)
 
 texts_least : (d : List ℕ) (rs : List StringRecord) → list_all (string_fits d) rs ≡ true → AllFit (map text_block (map (text_of d) rs)) → total least_of_string rs ≤ length (text_blocks (map (text_of d) rs))
 unfolding total blocks_bytes
@@ -69,7 +47,8 @@ tables_least d rs (t ∷ ts) e f =
     let k : BlockValue = table_block x in
     let own = left_fit (blocks_of_table x) (flat_map blocks_of_table (map (table_of d rs) ts)) f in
     let key : length (key_of x.translation) ≡ 16 = refl in
-    let strings : total least_of_string (strings_of rs t) ≤ length (text_blocks x.strings) = texts_least d (strings_of rs t) (strings_pass (string_fits d) rs t e) (table_texts x own.0) in
+    let strings : total least_of_string (strings_of rs t) ≤ length (text_blocks x.strings) =
+    texts_least d (strings_of rs t) (grind (arith, all_taken, all_dropped)) (table_texts x own.0) in
     omega (arith, length-append (padded_block k) (table_blocks (map (table_of d rs) ts)), padded_size k (table_whole x own.0), key, strings, tables_least d rs ts e own.1)
 
 -- ---- the test

@@ -1,14 +1,10 @@
 -- What is made of its elements, one after the other.
-use Rattle.std.proofs.Common.{◌≡◌, ℕ, ◌+◌, ◌<◌, ◌≤◌, Bool, true, false, List, [], ◌∷◌, ◌++◌, length, drop, get_or, Result, Ok, Err, refl, ap, sym, ◌∙◌}
-use Rattle.std.specs.List.{flat_map}
-use Rattle.std.proofs.lemmas.List.{append-nil, append_assoc, drop_all, drop_more}
-use Rattle.pe_core.specs.Refusals.{outcome}
-use Rattle.pe_version.specs.VersionRefusals.{VersionRefusal, length_of}
-use Rattle.pe_version.specs.VersionRecords.{each_made}
+use Rattle.std.proofs.Common.{◌≡◌, ℕ, ◌+◌, ◌<◌, ◌≤◌, Bool, true, false, List, [], ◌∷◌, ◌++◌, length, drop, get_or, Result, Ok, Err, refl, arith}
+use Rattle.pe_version.proofs.Cited.{flat_map, append-nil, append_assoc, drop_all, drop_more, outcome, VersionRefusal, length_of}
+use Rattle.pe_version.proofs.Cited.{each_made}
 
 pub refused_by_length : (made : Result (List ℕ) VersionRefusal) (r : VersionRefusal) → length_of made ≡ Err r → made ≡ Err r
-refused_by_length (Ok s) r h = absurd cc
-refused_by_length (Err e) r h = let same : e ≡ r = cc in ap (λ (k : VersionRefusal). Err k) same
+refused_by_length made r h = grind arith
 
 -- the first elements are made, and these are left
 pub record Made {X : Type 0} (tests : X → List (Bool × VersionRefusal)) (bytes : X → List ℕ) (done : List ℕ) (i : ℕ) (xs : List X) : Type 0 where
@@ -31,17 +27,7 @@ stops ((false, q) ∷ a) b x y r h = cc
 
 pub one_made : {X : Type 0} (tests : X → List (Bool × VersionRefusal)) (bytes : X → List ℕ) (done s now : List ℕ) (i : ℕ) (xs : List X) (d : X) → i < length xs →
     outcome (tests (get_or xs i d)) (bytes (get_or xs i d)) ≡ Ok s → now ≡ done ++ s → Made tests bytes done i xs → Made tests bytes now (i + 1) xs
-one_made {X} tests bytes done s now i xs d h e f m =
-    let x : X = get_or xs i d in
-    let rest : List X = drop (i + 1) xs in
-    let here : drop i xs ≡ x ∷ rest = drop_more xs i d h in
-    let is : bytes x ≡ s = value_same (tests x) (bytes x) s e in
-    record {
-      is = ap (λ (l : List ℕ). outcome (flat_map tests rest) (l ++ flat_map bytes rest)) f
-          ∙ ap (λ (l : List ℕ). outcome (flat_map tests rest) l) (append_assoc done s (flat_map bytes rest) ∙ ap (λ (l : List ℕ). done ++ (l ++ flat_map bytes rest)) (sym is))
-          ∙ sym (passes (tests x) (flat_map tests rest) (bytes x) s (done ++ (bytes x ++ flat_map bytes rest)) e)
-          ∙ ap (λ (l : List X). outcome (flat_map tests l) (done ++ flat_map bytes l)) (sym here) ∙ m.is;
-    }
+one_made tests bytes done s now i xs d h e f m = grind (arith, drop_more, value_same, append_assoc, passes)
 
 pub one_refused : {X : Type 0} (tests : X → List (Bool × VersionRefusal)) (bytes : X → List ℕ) (done : List ℕ) (i : ℕ) (xs : List X) (d : X) (r : VersionRefusal) → i < length xs →
     outcome (tests (get_or xs i d)) (bytes (get_or xs i d)) ≡ Err r → Made tests bytes done i xs → each_made tests bytes xs ≡ Err r
@@ -49,9 +35,7 @@ one_refused {X} tests bytes done i xs d r h e m =
     let x : X = get_or xs i d in
     let rest : List X = drop (i + 1) xs in
     let here : drop i xs ≡ x ∷ rest = drop_more xs i d h in
-    sym m.is ∙ ap (λ (l : List X). outcome (flat_map tests l) (done ++ flat_map bytes l)) here
-    ∙ stops (tests x) (flat_map tests rest) (bytes x) (done ++ (bytes x ++ flat_map bytes rest)) r e
+    grind (arith, m.is, here, stops (tests x) (flat_map tests rest) (bytes x) (done ++ (bytes x ++ flat_map bytes rest)) r e)
 
 pub all_made : {X : Type 0} (tests : X → List (Bool × VersionRefusal)) (bytes : X → List ℕ) (done : List ℕ) (i : ℕ) (xs : List X) → length xs ≤ i → Made tests bytes done i xs → each_made tests bytes xs ≡ Ok done
-all_made {X} tests bytes done i xs h m =
-    sym m.is ∙ ap (λ (l : List X). outcome (flat_map tests l) (done ++ flat_map bytes l)) (drop_all i xs h) ∙ ap (λ (l : List ℕ). Ok l) (append-nil done)
+all_made tests bytes done i xs h m = grind (arith, drop_all, append-nil)

@@ -1,19 +1,13 @@
 -- The lengths of blocks that are not written yet.
-use Rattle.std.proofs.Common.{◌≡◌, ℕ, ◌+◌, ◌*◌, ◌%◌, ◌<◌, ◌≤◌, ◌==◌, ◌||◌, Bool, true, false, List, [], ◌∷◌, ◌++◌, length, map, get_or, Result, Ok, Err, refl, ap, sym, ◌∙◌, subst, arith, length-append}
-use Rattle.std.specs.Prelude.{codes, if◌then◌else◌, nat_lt, not}
-use Rattle.std.specs.List.{flat_map}
-use Rattle.std.proofs.lemmas.Bool.Decides.{nat_tests}
+use Rattle.std.proofs.Common.{◌≡◌, ℕ, ◌+◌, ◌*◌, ◌%◌, ◌<◌, ◌≤◌, Bool, true, List, [], ◌∷◌, ◌++◌, length, map, get_or, Result, Ok, Err, refl, ap, sym, ◌∙◌, subst, arith, length-append, rules}
+use Rattle.pe_version.proofs.Cited.{codes, nat_lt, flat_map, nat_tests, append-nil, bytes_of, outcome, length-bytes_of, up_to_four}
+use Rattle.pe_version.proofs.Cited.{Translation, Measured, capped, capped_length_of, each_made, table_made, tables_made, texts_made}
+use Rattle.pe_version.proofs.Cited.{variables_made, VersionRefusal, TooLong, VersionReturns, block_of, block_tests, key_fits}
+use Rattle.pe_version.proofs.Cited.{length_of, TableValue, TextValue, Value, all_blocks, blocks_of_table, fixed_bytes, key_of}
+use Rattle.pe_version.proofs.Cited.{root_block, strings_block, table_block, table_blocks, text_block, text_blocks}
+use Rattle.pe_version.proofs.Cited.{translation_block, translation_bytes, utf16, variables_block, version_of, BlockValue}
+use Rattle.pe_version.proofs.Cited.{before_others, block_length, blocks_bytes, padded_block}
 use Rattle.std.proofs.lemmas.Grind.{flat_map-append}
-use Rattle.std.proofs.lemmas.List.{append-nil}
-use Rattle.pe_core.specs.Bytes.{bytes_of}
-use Rattle.pe_core.specs.Refusals.{outcome}
-use Rattle.pe_core.proofs.Splices.{length-bytes_of}
-use Rattle.pe_resource.specs.VersionStrings.{up_to_four}
-use Rattle.pe_resource.specs.declared.version_block.Translation.{Translation}
-use Rattle.pe_version.specs.VersionRecords.{Measured, capped, capped_length_of, each_made, table_made, tables_made, texts_made, variables_made}
-use Rattle.pe_version.specs.VersionRefusals.{VersionRefusal, TooLong, VersionReturns, block_of, block_tests, key_fits, length_of}
-use Rattle.pe_version.specs.VersionValues.{TableValue, TextValue, Value, all_blocks, blocks_of_table, fixed_bytes, key_of, root_block, strings_block, table_block, table_blocks, text_block, text_blocks, translation_block, translation_bytes, utf16, variables_block, version_of}
-use Rattle.pe_version.specs.WrittenBlocks.{BlockValue, before_others, block_length, blocks_bytes, padded_block}
 use Rattle.pe_version.specs.declared.error.VersionError.{VersionError}
 use Rattle.pe_version.proofs.Calls.{padded_size}
 use Rattle.pe_version.proofs.Making.{Made, all_made, one_made, one_refused, passes, refused_by_length, stops, value_same}
@@ -21,16 +15,8 @@ use Rattle.pe_version.proofs.Tests.{made_fits}
 
 -- ---- sums of at most 65,536
 
-capped_by : (a : ℕ) (t : Bool) → nat_lt a 65536 ≡ t → (b : ℕ) → capped (capped a + b) ≡ capped (a + b)
-capped_by a true e b = ap (λ (s : Bool). capped ((if s then a else 65536) + b)) e
-capped_by a false e b =
-    let one : nat_lt (65536 + b) 65536 ≡ false = grind (arith, nat_tests) in
-    let two : nat_lt (a + b) 65536 ≡ false = grind (arith, nat_tests, e) in
-    ap (λ (s : Bool). capped ((if s then a else 65536) + b)) e ∙ ap (λ (s : Bool). if s then 65536 + b else 65536) one
-    ∙ sym (ap (λ (s : Bool). if s then a + b else 65536) two)
-
 pub capped_more : (a b : ℕ) → capped (capped a + b) ≡ capped (a + b)
-capped_more a b = capped_by a (nat_lt a 65536) refl b
+capped_more a b = grind (arith, nat_tests)
 
 pub capped_again : (a : ℕ) → capped (capped a + 0) ≡ capped a
 capped_again a = let none : a + 0 ≡ a = omega arith in capped_more a 0 ∙ ap capped none
@@ -47,8 +33,7 @@ pub record Counted (made : Result (List ℕ) VersionRefusal) (n : ℕ) : Type 0 
   pub count : length bytes ≡ n
 
 pub counted : (made : Result (List ℕ) VersionRefusal) (n : ℕ) → length_of made ≡ Ok n → Counted made n
-counted (Ok s) n h = record { bytes = s; is = refl; count = cc }
-counted (Err r) n h = absurd cc
+counted made n h = grind arith
 
 pub record CappedTo (made : Result (List ℕ) VersionRefusal) (n : ℕ) : Type 0 where
   pub bytes : List ℕ
@@ -56,12 +41,10 @@ pub record CappedTo (made : Result (List ℕ) VersionRefusal) (n : ℕ) : Type 0
   pub count : n ≡ capped (length bytes)
 
 pub capped_to : (made : Result (List ℕ) VersionRefusal) (n : ℕ) → capped_length_of made ≡ Ok n → CappedTo made n
-capped_to (Ok s) n h = let same : capped (length s) ≡ n = cc in record { bytes = s; is = refl; count = sym same }
-capped_to (Err r) n h = absurd cc
+capped_to made n h = grind arith
 
 pub refused_by_capped : (made : Result (List ℕ) VersionRefusal) (r : VersionRefusal) → capped_length_of made ≡ Err r → made ≡ Err r
-refused_by_capped (Ok s) r h = absurd cc
-refused_by_capped (Err e) r h = let same : e ≡ r = cc in ap (λ (k : VersionRefusal). Err k) same
+refused_by_capped made r h = grind arith
 
 pub no_length : (made : Result (List ℕ) VersionRefusal) (r : VersionRefusal) → made ≡ Err r → length_of made ≡ Err r
 no_length made r e = ap (λ (x : Result (List ℕ) VersionRefusal). length_of x) e
@@ -89,8 +72,7 @@ one_unmeasured {X} tests bytes sum i xs d r h e m =
     ap (λ (x : Result (List ℕ) VersionRefusal). capped_length_of x) (one_refused tests bytes m.done i xs d r h (refused_by_length _ r e) m.made)
 
 pub all_measured : {X : Type 0} (tests : X → List (Bool × VersionRefusal)) (bytes : X → List ℕ) (sum i : ℕ) (xs : List X) → length xs ≤ i → MeasuredTo tests bytes sum i xs → capped_length_of (each_made tests bytes xs) ≡ Ok sum
-all_measured tests bytes sum i xs h m =
-    ap (λ (x : Result (List ℕ) VersionRefusal). capped_length_of x) (all_made tests bytes m.done i xs h m.made) ∙ ap (λ (n : ℕ). Ok n) (sym m.is)
+all_measured tests bytes sum i xs h m = grind (arith, all_made)
 
 -- ---- strings and tables, by what they are read of
 
@@ -110,9 +92,7 @@ texts_bytes f [] = refl
 texts_bytes f (x ∷ xs) = ap (λ (l : List ℕ). padded_block (text_block (f x)) ++ l) (texts_bytes f xs)
 
 pub texts_by : {X : Type 0} (f : X → TextValue) (xs : List X) → texts_made (map f xs) ≡ each_made (tests_by f) (bytes_by f) xs
-texts_by f xs =
-    ap (λ (l : List (Bool × VersionRefusal)). outcome l (text_blocks (map f xs))) (texts_tests f xs)
-    ∙ ap (λ (b : List ℕ). outcome (flat_map (tests_by f) xs) b) (texts_bytes f xs)
+texts_by f xs = grind (arith, texts_tests, texts_bytes)
 
 abbrev pub table_tests_by : {X : Type 0} → (X → TableValue) → X → List (Bool × VersionRefusal)
 table_tests_by g x = flat_map block_tests (blocks_of_table (g x))
@@ -122,9 +102,7 @@ table_bytes_by g x = padded_block (table_block (g x))
 
 tables_tests : {X : Type 0} (g : X → TableValue) (xs : List X) → flat_map block_tests (flat_map blocks_of_table (map g xs)) ≡ flat_map (table_tests_by g) xs
 tables_tests g [] = refl
-tables_tests g (x ∷ xs) =
-    flat_map-append block_tests (blocks_of_table (g x)) (flat_map blocks_of_table (map g xs))
-    ∙ ap (λ (l : List (Bool × VersionRefusal)). flat_map block_tests (blocks_of_table (g x)) ++ l) (tables_tests g xs)
+tables_tests g (x ∷ xs) = grind (arith, flat_map-append, tables_tests g xs)
 
 pub tables_bytes : {X : Type 0} (g : X → TableValue) (xs : List X) → table_blocks (map g xs) ≡ flat_map (table_bytes_by g) xs
 unfolding blocks_bytes
@@ -132,44 +110,26 @@ tables_bytes g [] = refl
 tables_bytes g (x ∷ xs) = ap (λ (l : List ℕ). padded_block (table_block (g x)) ++ l) (tables_bytes g xs)
 
 pub tables_by : {X : Type 0} (g : X → TableValue) (xs : List X) → tables_made (map g xs) ≡ each_made (table_tests_by g) (table_bytes_by g) xs
-tables_by g xs =
-    ap (λ (l : List (Bool × VersionRefusal)). outcome l (table_blocks (map g xs))) (tables_tests g xs)
-    ∙ ap (λ (b : List ℕ). outcome (flat_map (table_tests_by g) xs) b) (tables_bytes g xs)
+tables_by g xs = grind (arith, tables_tests, tables_bytes)
 
 -- ---- a block with a value of a multiple of four
 
 pub before_four : (n : ℕ) (c : List ℕ) → n % 4 ≡ 0 → before_others n c ≡ n
-before_four n [] e = refl
-before_four n (x ∷ xs) e = omega (arith, e)
-
-text_passes : (t : Bool) (n : ℕ) → n % 4 ≡ 0 → (not t || n % 2 == 0) ≡ true
-text_passes true n e = let two : n % 2 ≡ 0 = omega (arith, e) in grind (arith, nat_tests, two)
-text_passes false n e = refl
+before_four n c e = grind arith
 
 length_by : (k : BlockValue) (key : List ℕ) (value children : ℕ) → Measured k key value children → block_length k ≡ up_to_four (8 + length key) + value + length k.children
-length_by k key value children m =
-    let even : length k.value % 4 ≡ 0 = ap (λ (n : ℕ). n % 4) m.value_is ∙ m.four in
-    omega (arith, before_four (length k.value) k.children even, m.value_is, ap length m.key_is)
-
-capped_small : (n c : ℕ) (t : Bool) → nat_lt n 65536 ≡ t → c ≡ capped n → c < 65536 → c ≡ n
-capped_small n c true e is h = is ∙ ap (λ (s : Bool). if s then n else 65536) e
-capped_small n c false e is h = absurd (omega (arith, is ∙ ap (λ (s : Bool). if s then n else 65536) e, h))
+length_by k key value children m = grind (arith, before_four)
 
 passed : (k : BlockValue) (key : List ℕ) (value children : ℕ) (t : Bool) (x : List ℕ) → Measured k key value children → key_fits key ≡ true → nat_lt (block_length k) 65536 ≡ t → outcome (block_tests k) x ≡ outcome ((t, TooLong) ∷ []) x
-passed k key value children t x m e f =
-    let fits : key_fits k.key ≡ true = ap key_fits m.key_is ∙ e in
-    let even : length k.value % 4 ≡ 0 = ap (λ (n : ℕ). n % 4) m.value_is ∙ m.four in
-    let text : (not k.is_text || length k.value % 2 == 0) ≡ true = text_passes k.is_text (length k.value) even in
-    rw (fits, text, f) refl
+passed k key value children t x m e f = grind (arith, nat_tests)
 
 pub accepted : (k : BlockValue) (key : List ℕ) (value children end n : ℕ) → Measured k key value children → key_fits key ≡ true → end ≡ up_to_four (8 + length key) + value + children → end ≤ 65535 → n ≡ up_to_four end → length_of (block_of k) ≡ Ok n
 accepted k key value children end n m e is short up =
-    let small : children ≡ length k.children = capped_small (length k.children) children (nat_lt (length k.children) 65536) refl m.children_are (omega (arith, is, short)) in
+    let small : children ≡ length k.children = grind (arith, m.children_are) in
     let size : block_length k ≡ end = omega (arith, length_by k key value children m, is, small) in
     let t : nat_lt (block_length k) 65536 ≡ true = grind (arith, nat_tests, size, short) in
     let made : block_of k ≡ Ok (padded_block k) = passed k key value children true (padded_block k) m e t in
-    ap (λ (r : Result (List ℕ) VersionRefusal). length_of r) made
-    ∙ ap (λ (i : ℕ). Ok i) (padded_size k (made_fits k (padded_block k) made) ∙ ap up_to_four size ∙ sym up)
+    grind (arith, made, padded_size k (made_fits k (padded_block k) made), size, up)
 
 -- ---- a table
 
@@ -177,26 +137,13 @@ table_parts : (t : TableValue) → flat_map block_tests (blocks_of_table t) ≡ 
 table_parts t = flat_map-append block_tests (map text_block t.strings) (table_block t ∷ [])
 
 pub table_refused : (t : TableValue) (r : VersionRefusal) → texts_made t.strings ≡ Err r → table_made t ≡ Err r
-table_refused t r e =
-    ap (λ (l : List (Bool × VersionRefusal)). outcome l (padded_block (table_block t))) (table_parts t)
-    ∙ stops (flat_map block_tests (map text_block t.strings)) (block_tests (table_block t) ++ []) (text_blocks t.strings) (padded_block (table_block t)) r e
+table_refused t r e = search (rules, arith, table_parts, stops)
 
 pub table_is : (t : TableValue) (s : List ℕ) → texts_made t.strings ≡ Ok s → table_made t ≡ block_of (table_block t)
-table_is t s e =
-    ap (λ (l : List (Bool × VersionRefusal)). outcome l (padded_block (table_block t))) (table_parts t)
-    ∙ passes (flat_map block_tests (map text_block t.strings)) (block_tests (table_block t) ++ []) (text_blocks t.strings) s (padded_block (table_block t)) e
-    ∙ ap (λ (l : List (Bool × VersionRefusal)). outcome l (padded_block (table_block t))) (append-nil (block_tests (table_block t)))
+table_is t s e = grind (arith, table_parts, passes, append-nil)
 
 pub table_measured : (t : TableValue) (key : List ℕ) (n c : ℕ) → key ≡ key_of t.translation → capped_length_of (texts_made t.strings) ≡ Ok n → c ≡ capped (n + 0) → Measured (table_block t) key 0 c
-table_measured t key n c e f g =
-    let x : CappedTo (texts_made t.strings) n = capped_to (texts_made t.strings) n f in
-    let same : text_blocks t.strings ≡ x.bytes = value_same (flat_map block_tests (map text_block t.strings)) (text_blocks t.strings) x.bytes x.is in
-    record {
-      key_is = sym e;
-      value_is = refl;
-      four = refl;
-      children_are = g ∙ ap (λ (m : ℕ). capped (m + 0)) x.count ∙ capped_again (length x.bytes) ∙ ap (λ (l : List ℕ). capped (length l)) (sym same);
-    }
+table_measured t key n c e f g = grind (arith, capped_to, value_same, capped_again)
 
 pub table_returns : (t : TableValue) (key : List ℕ) (n c : ℕ) (result : Result ℕ VersionError) → key ≡ key_of t.translation → capped_length_of (texts_made t.strings) ≡ Ok n → c ≡ capped (n + 0) →
     ((k : BlockValue) → Measured k key 0 c → VersionReturns result (length_of (block_of k))) → VersionReturns result (length_of (table_made t))
@@ -220,31 +167,15 @@ pairs_stop : (ps : List Translation) (r : VersionRefusal) → block_of (translat
 pairs_stop ps r e = stops (block_tests (translation_block ps)) (block_tests (variables_block ps) ++ []) (padded_block (translation_block ps)) (padded_block (variables_block ps)) r e
 
 pub many_refused : (ps : List Translation) → 65535 < length ps → length_of (variables_made ps) ≡ Err TooLong
-many_refused ps h =
-    let m : Measured (translation_block ps) (utf16 (codes "Translation")) (4 * length ps) 0 = pairs_measured ps (utf16 (codes "Translation")) (4 * length ps) refl refl in
-    let size : 65536 ≤ block_length (translation_block ps) = omega (arith, length_by (translation_block ps) (utf16 (codes "Translation")) (4 * length ps) 0 m, h) in
-    let t : nat_lt (block_length (translation_block ps)) 65536 ≡ false = grind (arith, nat_tests, size) in
-    no_length (variables_made ps) TooLong (pairs_stop ps TooLong (passed (translation_block ps) (utf16 (codes "Translation")) (4 * length ps) 0 false (padded_block (translation_block ps)) m refl t))
+many_refused ps h = grind (arith, pairs_measured, length_by, nat_tests, no_length, pairs_stop, passed)
 
 pub pairs_refused : (ps : List Translation) (r : VersionRefusal) → length_of (block_of (translation_block ps)) ≡ Err r → length_of (variables_made ps) ≡ Err r
 pairs_refused ps r e = no_length (variables_made ps) r (pairs_stop ps r (refused_by_length _ r e))
 
-variables_is : (ps : List Translation) (s : List ℕ) → block_of (translation_block ps) ≡ Ok s → variables_made ps ≡ block_of (variables_block ps)
-variables_is ps s e =
-    let k : BlockValue = variables_block ps in
-    passes (block_tests (translation_block ps)) (block_tests k ++ []) (padded_block (translation_block ps)) s (padded_block k) e
-    ∙ ap (λ (l : List (Bool × VersionRefusal)). outcome l (padded_block k)) (append-nil (block_tests k))
-
 pub variables_return : (ps : List Translation) (key : List ℕ) (n c : ℕ) (result : Result ℕ VersionError) → key ≡ utf16 (codes "VarFileInfo") → length_of (block_of (translation_block ps)) ≡ Ok n → c ≡ capped (n + 0) →
     ((k : BlockValue) → Measured k key 0 c → VersionReturns result (length_of (block_of k))) → VersionReturns result (length_of (variables_made ps))
 unfolding blocks_bytes
-variables_return ps key n c result e f g h =
-    let x : Counted (block_of (translation_block ps)) n = counted (block_of (translation_block ps)) n f in
-    let same : padded_block (translation_block ps) ≡ x.bytes = value_same (block_tests (translation_block ps)) (padded_block (translation_block ps)) x.bytes x.is in
-    let none : n + 0 ≡ n = omega arith in
-    let size : length (padded_block (translation_block ps) ++ []) ≡ n = ap length (append-nil (padded_block (translation_block ps)) ∙ same) ∙ x.count in
-    let m : Measured (variables_block ps) key 0 c = record { key_is = sym e; value_is = refl; four = refl; children_are = g ∙ ap capped none ∙ ap capped (sym size) } in
-    returns_by result (length_of (block_of (variables_block ps))) (length_of (variables_made ps)) (ap (λ (r : Result (List ℕ) VersionRefusal). length_of r) (variables_is ps x.bytes x.is)) (h (variables_block ps) m)
+variables_return ps key n c result e f g h = grind (arith, counted, value_same, append-nil, returns_by, passes)
 
 -- ---- all
 
@@ -256,28 +187,16 @@ unfolding version_of all_blocks
 version_parts v = ap (λ (l : List (Bool × VersionRefusal)). outcome l (padded_block (root_block v))) (flat_map-append block_tests (flat_map blocks_of_table v.tables) (last_blocks v))
 
 pub tables_refused : (v : Value) (r : VersionRefusal) → capped_length_of (tables_made v.tables) ≡ Err r → length_of (version_of v) ≡ Err r
-tables_refused v r e =
-    no_length (version_of v) r (version_parts v ∙ stops (flat_map block_tests (flat_map blocks_of_table v.tables)) (flat_map block_tests (last_blocks v)) (table_blocks v.tables) (padded_block (root_block v)) r (refused_by_capped (tables_made v.tables) r e))
+tables_refused v r e = search (rules, arith, no_length, version_parts, stops, refused_by_capped)
 
 after_tables : (v : Value) (t : List ℕ) → tables_made v.tables ≡ Ok t → version_of v ≡ outcome (flat_map block_tests (last_blocks v)) (padded_block (root_block v))
 after_tables v t e = version_parts v ∙ passes (flat_map block_tests (flat_map blocks_of_table v.tables)) (flat_map block_tests (last_blocks v)) (table_blocks v.tables) t (padded_block (root_block v)) e
 
 pub strings_measured : (ts : List TableValue) (key : List ℕ) (n c : ℕ) → key ≡ utf16 (codes "StringFileInfo") → capped_length_of (tables_made ts) ≡ Ok n → c ≡ capped (n + 0) → Measured (strings_block ts) key 0 c
-strings_measured ts key n c e f g =
-    let x : CappedTo (tables_made ts) n = capped_to (tables_made ts) n f in
-    let same : table_blocks ts ≡ x.bytes = value_same (flat_map block_tests (flat_map blocks_of_table ts)) (table_blocks ts) x.bytes x.is in
-    record {
-      key_is = sym e;
-      value_is = refl;
-      four = refl;
-      children_are = g ∙ ap (λ (m : ℕ). capped (m + 0)) x.count ∙ capped_again (length x.bytes) ∙ ap (λ (l : List ℕ). capped (length l)) (sym same);
-    }
+strings_measured ts key n c e f g = grind (arith, capped_to, value_same, capped_again)
 
 pub strings_refused : (v : Value) (n : ℕ) (r : VersionRefusal) → capped_length_of (tables_made v.tables) ≡ Ok n → length_of (block_of (strings_block v.tables)) ≡ Err r → length_of (version_of v) ≡ Err r
-strings_refused v n r e f =
-    let x : CappedTo (tables_made v.tables) n = capped_to (tables_made v.tables) n e in
-    let others : List (Bool × VersionRefusal) = flat_map block_tests (translation_block v.translations ∷ variables_block v.translations ∷ root_block v ∷ []) in
-    no_length (version_of v) r (after_tables v x.bytes x.is ∙ stops (block_tests (strings_block v.tables)) others (padded_block (strings_block v.tables)) (padded_block (root_block v)) r (refused_by_length _ r f))
+strings_refused v n r e f = grind (arith, capped_to, no_length, after_tables, stops, refused_by_length)
 
 after_strings : (v : Value) (t s : List ℕ) → tables_made v.tables ≡ Ok t → block_of (strings_block v.tables) ≡ Ok s →
     version_of v ≡ outcome (flat_map block_tests (translation_block v.translations ∷ variables_block v.translations ∷ []) ++ (block_tests (root_block v) ++ [])) (padded_block (root_block v))
@@ -287,11 +206,7 @@ after_strings v t s e f =
     ∙ ap (λ (l : List (Bool × VersionRefusal)). outcome l (padded_block (root_block v))) (flat_map-append block_tests (translation_block ps ∷ variables_block ps ∷ []) (root_block v ∷ []))
 
 pub variables_refused : (v : Value) (n m : ℕ) (r : VersionRefusal) → capped_length_of (tables_made v.tables) ≡ Ok n → length_of (block_of (strings_block v.tables)) ≡ Ok m → length_of (variables_made v.translations) ≡ Err r → length_of (version_of v) ≡ Err r
-variables_refused v n m r e f g =
-    let ps : List Translation = v.translations in
-    let x : CappedTo (tables_made v.tables) n = capped_to (tables_made v.tables) n e in
-    let y : Counted (block_of (strings_block v.tables)) m = counted (block_of (strings_block v.tables)) m f in
-    no_length (version_of v) r (after_strings v x.bytes y.bytes x.is y.is ∙ stops (flat_map block_tests (translation_block ps ∷ variables_block ps ∷ [])) (block_tests (root_block v) ++ []) (padded_block (variables_block ps)) (padded_block (root_block v)) r (refused_by_length _ r g))
+variables_refused v n m r e f g = grind (arith, capped_to, counted, no_length, after_strings, stops, refused_by_length)
 
 pub length_fixed : (v : Value) → length (fixed_bytes v.fixed) ≡ 52
 unfolding fixed_bytes bytes_of
@@ -301,18 +216,4 @@ pub version_returns : (v : Value) (key : List ℕ) (n a b c : ℕ) (result : Res
     length_of (variables_made v.translations) ≡ Ok b → c ≡ capped (a + b) → ((k : BlockValue) → Measured k key 52 c → VersionReturns result (length_of (block_of k))) → VersionReturns result (length_of (version_of v))
 unfolding root_block blocks_bytes
 version_returns v key n a b c result i e f g is h =
-    let ps : List Translation = v.translations in
-    let x : CappedTo (tables_made v.tables) n = capped_to (tables_made v.tables) n e in
-    let y : Counted (block_of (strings_block v.tables)) a = counted (block_of (strings_block v.tables)) a f in
-    let z : Counted (variables_made ps) b = counted (variables_made ps) b g in
-    let one : padded_block (strings_block v.tables) ≡ y.bytes = value_same (block_tests (strings_block v.tables)) (padded_block (strings_block v.tables)) y.bytes y.is in
-    let two : padded_block (variables_block ps) ≡ z.bytes = value_same (flat_map block_tests (translation_block ps ∷ variables_block ps ∷ [])) (padded_block (variables_block ps)) z.bytes z.is in
-    let size : length (padded_block (strings_block v.tables) ++ (padded_block (variables_block ps) ++ [])) ≡ a + b =
-    omega (arith, length-append (padded_block (strings_block v.tables)) (padded_block (variables_block ps) ++ []), ap length (append-nil (padded_block (variables_block ps)) ∙ two), ap length one, y.count, z.count) in
-    let m : Measured (root_block v) key 52 c = record { key_is = sym i; value_is = length_fixed v; four = refl; children_are = is ∙ ap capped (sym size) } in
-    returns_by result (length_of (block_of (root_block v))) (length_of (version_of v))
-    (ap (λ (r : Result (List ℕ) VersionRefusal). length_of r)
-    (after_strings v x.bytes y.bytes x.is y.is
-    ∙ passes (flat_map block_tests (translation_block ps ∷ variables_block ps ∷ [])) (block_tests (root_block v) ++ []) (padded_block (variables_block ps)) z.bytes (padded_block (root_block v)) z.is
-    ∙ ap (λ (l : List (Bool × VersionRefusal)). outcome l (padded_block (root_block v))) (append-nil (block_tests (root_block v)))))
-    (h (root_block v) m)
+    grind (arith, capped_to, counted, value_same, length-append, append-nil, length_fixed, returns_by, after_strings, passes)

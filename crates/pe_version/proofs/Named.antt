@@ -1,25 +1,19 @@
 -- What `VersionInfo` finds by its names in version information that is written.
-use Rattle.std.proofs.Common.{◌≡◌, ◌≢◌, ℕ, ◌+◌, ◌-◌, ◌*◌, ◌/◌, ◌%◌, ◌<◌, ◌==◌, ◌↔◌, Bool, true, false, List, [], ◌∷◌, ◌++◌, length, get_or, map, replicate, Option, Some, None, Result, Ok, IsTrue, if◌then◌else◌, refl, ap, sym, ◌∙◌, arith}
-use Rattle.std.specs.Prelude.{codes, nat_lt}
-use Rattle.std.specs.List.{flat_map, list_all}
+use Rattle.std.proofs.Common.{◌≡◌, ◌≢◌, ℕ, ◌+◌, ◌*◌, ◌%◌, ◌<◌, ◌==◌, ◌↔◌, Bool, true, false, List, [], ◌∷◌, ◌++◌, length, map, Option, Some, None, Result, Ok, IsTrue, if◌then◌else◌, refl, ap, sym, ◌∙◌, arith, rules}
+use Rattle.pe_version.proofs.Cited.{codes, nat_lt, flat_map, list_all, nat_tests, append-nil, append_assoc, Refusal, Short, outcome}
+use Rattle.pe_version.proofs.Cited.{VersionView, file_strings, fixed_info_in, fixed_info_of, value_named, version_in, version_key}
+use Rattle.pe_version.proofs.Cited.{IsPlain, VersionString, all_read, before_zero, is_name, is_plain, key_length, read, text, units}
+use Rattle.pe_version.proofs.Cited.{VsFixedFileInfo, flat, flat_blocks, flat_table, padded, text_with_name, texts_of, IsPair}
+use Rattle.pe_version.proofs.Cited.{NumbersFit, TableValue, TablesHavePairs, TextValue, Value, fixed_bytes, four_digits, root_block}
+use Rattle.pe_version.proofs.Cited.{strings_block, table_block, text_block, translation_block, utf16, variables_block, version_of}
+use Rattle.pe_version.proofs.Cited.{BlockValue, NoZero}
 use Rattle.std.specs.Option.{option_map}
 use Rattle.std.specs.Str.{bytes_eq}
-use Rattle.std.proofs.lemmas.Bool.Decides.{nat_tests}
-use Rattle.std.proofs.lemmas.List.{append-nil, append_assoc}
 use Rattle.std.proofs.lemmas.Slice.Eq.{bytes_eq-Decides}
-use Rattle.pe_core.specs.Bytes.{holds}
-use Rattle.pe_core.specs.Refusals.{Refusal, Short, outcome, ◌>>=◌}
-use Rattle.pe_resource.specs.VersionFields.{VersionView, file_strings, fixed_info_at, fixed_info_in, fixed_info_of, value_named, version_in, version_key}
-use Rattle.pe_resource.specs.VersionStrings.{IsPlain, VersionString, all_read, before_zero, is_name, is_plain, key_length, read, strings, text, units, up_to_four, value_of}
+use Rattle.pe_resource.specs.VersionStrings.{value_of}
 use Rattle.pe_resource.specs.declared.version.VersionName.{VersionName}
-use Rattle.pe_resource.specs.declared.version.VersionName.TheVariants as names
-use Rattle.pe_resource.specs.declared.version.VsFixedFileInfo.{VsFixedFileInfo}
-use Rattle.pe_resource.specs.declared.version_block.Translation.{Translation}
 use Rattle.pe_core.proofs.Equality.{both}
 use Rattle.pe_resource.proofs.Names.{name_whole}
-use Rattle.pe_version.specs.VersionStrings.{flat, flat_blocks, flat_table, padded, text_with_name, texts_of}
-use Rattle.pe_version.specs.VersionValues.{IsPair, NumbersFit, TableValue, TablesHavePairs, TextValue, Value, fixed_bytes, four_digits, hex_digit, root_block, strings_block, table_block, text_block, translation_block, utf16, variables_block, version_of}
-use Rattle.pe_version.specs.WrittenBlocks.{BlockValue, NoZero}
 use Rattle.pe_version.proofs.Blocks.{units_length}
 use Rattle.pe_version.proofs.Flat.{strings_are}
 use Rattle.pe_version.proofs.VersionsRead.{fixed_read, length-fixed, units_of}
@@ -45,8 +39,7 @@ no_zeros [] h = tt
 no_zeros (c ∷ cs) h = (λ e. h.0 (omega (arith, e)), no_zeros cs h.1)
 
 is_not : (t : Bool) → t ≡ false → IsTrue t → ⊥
-is_not false e h = absurd cc
-is_not true e h = absurd cc
+is_not t e h = grind arith
 
 other_key : (cs name : List ℕ) → NoZero cs → IsPlain name → bytes_eq cs name ≡ false → is_name name (text (utf16 cs)) ≡ false
 other_key cs name some plain e =
@@ -67,18 +60,7 @@ from_plain (c ∷ cs) h =
 -- ---- the twelve names are plain, and no keys of other blocks
 
 plain_name : (n : VersionName) → IsPlain (version_key n)
-plain_name names.Comments = refl
-plain_name names.CompanyName = refl
-plain_name names.FileDescription = refl
-plain_name names.FileVersion = refl
-plain_name names.InternalName = refl
-plain_name names.LegalCopyright = refl
-plain_name names.LegalTrademarks = refl
-plain_name names.OriginalFilename = refl
-plain_name names.PrivateBuild = refl
-plain_name names.ProductName = refl
-plain_name names.ProductVersion = refl
-plain_name names.SpecialBuild = refl
+plain_name n = grind arith
 
 -- none of these is the name
 abbrev NoneIs : VersionName → Type 0
@@ -86,76 +68,17 @@ NoneIs n =
     (bytes_eq (codes "VS_VERSION_INFO") (version_key n) ≡ false) × ((bytes_eq (codes "StringFileInfo") (version_key n) ≡ false)
     × ((bytes_eq (codes "VarFileInfo") (version_key n) ≡ false) × (bytes_eq (codes "Translation") (version_key n) ≡ false)))
 
-none_is : (n : VersionName) → NoneIs n
-none_is names.Comments = (refl, (refl, (refl, refl)))
-none_is names.CompanyName = (refl, (refl, (refl, refl)))
-none_is names.FileDescription = (refl, (refl, (refl, refl)))
-none_is names.FileVersion = (refl, (refl, (refl, refl)))
-none_is names.InternalName = (refl, (refl, (refl, refl)))
-none_is names.LegalCopyright = (refl, (refl, (refl, refl)))
-none_is names.LegalTrademarks = (refl, (refl, (refl, refl)))
-none_is names.OriginalFilename = (refl, (refl, (refl, refl)))
-none_is names.PrivateBuild = (refl, (refl, (refl, refl)))
-none_is names.ProductName = (refl, (refl, (refl, refl)))
-none_is names.ProductVersion = (refl, (refl, (refl, refl)))
-none_is names.SpecialBuild = (refl, (refl, (refl, refl)))
-
 -- texts that differ in length, or in their second character
 other_by : (xs ys : List ℕ) (t : Bool) → bytes_eq xs ys ≡ t → (xs ≡ ys → ⊥) → t ≡ false
-other_by xs ys true e ne = absurd (ne ((bytes_eq-Decides xs ys).0 e))
-other_by xs ys false e ne = refl
-
-other_length : (xs ys : List ℕ) → length xs ≢ length ys → bytes_eq xs ys ≡ false
-other_length xs ys ne = other_by xs ys (bytes_eq xs ys) refl (λ e. ne (ap length e))
-
-other_second : (a c d e : ℕ) (xs ys : List ℕ) → c ≢ e → bytes_eq (a ∷ c ∷ xs) (d ∷ e ∷ ys) ≡ false
-other_second a c d e xs ys ne = other_by (a ∷ c ∷ xs) (d ∷ e ∷ ys) (bytes_eq (a ∷ c ∷ xs) (d ∷ e ∷ ys)) refl (λ is. ne (ap (λ (l : List ℕ). get_or l 1 0) is))
+other_by xs ys t e ne = grind (arith, bytes_eq-Decides)
 
 digit_by : (t : Bool) (d : ℕ) → d < 16 → ((if t then 48 + d else 55 + d) < 111) × ((if t then 48 + d else 55 + d) ≢ 0)
-digit_by true d h = (omega (arith, h), λ e. absurd (omega (arith, e)))
-digit_by false d h = (omega (arith, h), λ e. absurd (omega (arith, e)))
-
-some_digit : (d : ℕ) → d < 16 → hex_digit d ≢ 0
-some_digit d h = (digit_by (nat_lt d 10) d h).1
-
-digits_some : (t : Translation) → IsPair t → NoZero (four_digits t.language ++ four_digits t.code_page)
-digits_some t p =
-    let l : ℕ = t.language in
-    let c : ℕ = t.code_page in (
-      some_digit (l / 4096) (omega (arith, p.0)),
-      (
-        some_digit (l / 256 % 16) (omega arith),
-        (
-          some_digit (l / 16 % 16) (omega arith),
-          (
-            some_digit (l % 16) (omega arith),
-            (some_digit (c / 4096) (omega (arith, p.1)), (some_digit (c / 256 % 16) (omega arith), (some_digit (c / 16 % 16) (omega arith), (some_digit (c % 16) (omega arith), tt)))),
-          ),
-        ),
-      ),
-    )
-
-no_o : (d : ℕ) → d < 16 → hex_digit d ≢ 111
-no_o d h e = let less : hex_digit d < 111 = (digit_by (nat_lt d 10) d h).0 in absurd (omega (arith, less, e))
-
-digits_other : (n : VersionName) (t : Translation) → bytes_eq (four_digits t.language ++ four_digits t.code_page) (version_key n) ≡ false
-digits_other names.Comments t =
-    other_second (hex_digit (t.language / 4096)) (hex_digit (t.language / 256 % 16)) 67 111 (hex_digit (t.language / 16 % 16) ∷ hex_digit (t.language % 16) ∷ four_digits t.code_page) (109 ∷ 109 ∷ 101 ∷ 110 ∷ 116 ∷ 115 ∷ [])
-    (no_o (t.language / 256 % 16) (omega arith))
-digits_other names.CompanyName t = other_length (four_digits t.language ++ four_digits t.code_page) (codes "CompanyName") (λ e. absurd (omega (arith, e)))
-digits_other names.FileDescription t = other_length (four_digits t.language ++ four_digits t.code_page) (codes "FileDescription") (λ e. absurd (omega (arith, e)))
-digits_other names.FileVersion t = other_length (four_digits t.language ++ four_digits t.code_page) (codes "FileVersion") (λ e. absurd (omega (arith, e)))
-digits_other names.InternalName t = other_length (four_digits t.language ++ four_digits t.code_page) (codes "InternalName") (λ e. absurd (omega (arith, e)))
-digits_other names.LegalCopyright t = other_length (four_digits t.language ++ four_digits t.code_page) (codes "LegalCopyright") (λ e. absurd (omega (arith, e)))
-digits_other names.LegalTrademarks t = other_length (four_digits t.language ++ four_digits t.code_page) (codes "LegalTrademarks") (λ e. absurd (omega (arith, e)))
-digits_other names.OriginalFilename t = other_length (four_digits t.language ++ four_digits t.code_page) (codes "OriginalFilename") (λ e. absurd (omega (arith, e)))
-digits_other names.PrivateBuild t = other_length (four_digits t.language ++ four_digits t.code_page) (codes "PrivateBuild") (λ e. absurd (omega (arith, e)))
-digits_other names.ProductName t = other_length (four_digits t.language ++ four_digits t.code_page) (codes "ProductName") (λ e. absurd (omega (arith, e)))
-digits_other names.ProductVersion t = other_length (four_digits t.language ++ four_digits t.code_page) (codes "ProductVersion") (λ e. absurd (omega (arith, e)))
-digits_other names.SpecialBuild t = other_length (four_digits t.language ++ four_digits t.code_page) (codes "SpecialBuild") (λ e. absurd (omega (arith, e)))
+digit_by t d h = grind arith
 
 table_other : (n : VersionName) (t : TableValue) → IsPair t.translation → is_name (version_key n) (text (table_block t).key) ≡ false
-table_other n t p = other_key (four_digits t.translation.language ++ four_digits t.translation.code_page) (version_key n) (digits_some t.translation p) (plain_name n) (digits_other n t.translation)
+table_other n t p =
+    other_key (four_digits t.translation.language ++ four_digits t.translation.code_page) (version_key n) (grind (arith, digit_by))
+    (plain_name n) (search (rules, arith, other_by, digit_by))
 
 -- ---- the first with a name
 
@@ -166,30 +89,16 @@ abbrev or_value : Option (List ℕ) → Option (List ℕ) → Option (List ℕ)
 or_value None o = o
 or_value (Some x) o = Some x
 
-or_none : (o : Option (List ℕ)) → or_value o None ≡ o
-or_none None = refl
-or_none (Some x) = refl
-
 passed_by : (name : List ℕ) (k : BlockValue) (ks : List BlockValue) → is_name name (text k.key) ≡ false → value_in name (k ∷ ks) ≡ value_in name ks
 passed_by name k ks e = rw e refl
 
-text_head : (name : List ℕ) (s : TextValue) (ss : List TextValue) (ks : List BlockValue) (t : Bool) → is_name name (text s.name) ≡ t → value_in name (map text_block ss ++ ks) ≡ or_value (option_map padded (text_with_name name ss)) (value_in name ks) →
-    value_in name (text_block s ∷ (map text_block ss ++ ks)) ≡ or_value (option_map padded (text_with_name name (s ∷ ss))) (value_in name ks)
-text_head name s ss ks true e more = rw e refl
-text_head name s ss ks false e more = rw e more
-
 texts_then : (name : List ℕ) (ss : List TextValue) (ks : List BlockValue) → value_in name (map text_block ss ++ ks) ≡ or_value (option_map padded (text_with_name name ss)) (value_in name ks)
 texts_then name [] ks = refl
-texts_then name (s ∷ ss) ks = text_head name s ss ks (is_name name (text s.name)) refl (texts_then name ss ks)
-
-append_head : (name : List ℕ) (s : TextValue) (xs ys : List TextValue) (t : Bool) (o : Option (List ℕ)) → is_name name (text s.name) ≡ t → or_value (option_map padded (text_with_name name (xs ++ ys))) o ≡ or_value (option_map padded (text_with_name name xs)) (or_value (option_map padded (text_with_name name ys)) o) →
-    or_value (option_map padded (text_with_name name (s ∷ (xs ++ ys)))) o ≡ or_value (option_map padded (text_with_name name (s ∷ xs))) (or_value (option_map padded (text_with_name name ys)) o)
-append_head name s xs ys true o e more = rw e refl
-append_head name s xs ys false o e more = rw e more
+texts_then name (s ∷ ss) ks = grind (arith, texts_then name ss ks)
 
 append_text : (name : List ℕ) (xs ys : List TextValue) (o : Option (List ℕ)) → or_value (option_map padded (text_with_name name (xs ++ ys))) o ≡ or_value (option_map padded (text_with_name name xs)) (or_value (option_map padded (text_with_name name ys)) o)
 append_text name [] ys o = refl
-append_text name (s ∷ xs) ys o = append_head name s xs ys (is_name name (text s.name)) o refl (append_text name xs ys o)
+append_text name (s ∷ xs) ys o = grind (arith, append_text name xs ys o)
 
 tables_then : (n : VersionName) (ts : List TableValue) (ks : List BlockValue) → TablesHavePairs ts →
     value_in (version_key n) (flat_map flat_table ts ++ ks) ≡ or_value (option_map padded (text_with_name (version_key n) (flat_map (λ t. t.strings) ts))) (value_in (version_key n) ks)
@@ -212,14 +121,14 @@ value_found : (v : Value) (n : VersionName) → NumbersFit v → value_in (versi
 unfolding flat_blocks root_block
 value_found v n fit =
     let name : List ℕ = version_key n in
-    let apart : NoneIs n = none_is n in
+    let apart : NoneIs n = grind arith in
     let last : List BlockValue = variables_block v.translations ∷ translation_block v.translations ∷ [] in
     let none : value_in name last ≡ None =
     passed_by name (variables_block v.translations) (translation_block v.translations ∷ []) (plain_key (codes "VarFileInfo") n (from_plain (codes "VarFileInfo") refl) apart.1.1.0)
     ∙ passed_by name (translation_block v.translations) [] (plain_key (codes "Translation") n (from_plain (codes "Translation") refl) apart.1.1.1) in
     passed_by name (root_block v) (strings_block v.tables ∷ (flat_map flat_table v.tables ++ last)) (plain_key (codes "VS_VERSION_INFO") n (from_plain (codes "VS_VERSION_INFO") refl) apart.0)
     ∙ passed_by name (strings_block v.tables) (flat_map flat_table v.tables ++ last) (plain_key (codes "StringFileInfo") n (from_plain (codes "StringFileInfo") refl) apart.1.0)
-    ∙ tables_then n v.tables last fit.tables ∙ ap (or_value (option_map padded (text_with_name name (texts_of v)))) none ∙ or_none (option_map padded (text_with_name name (texts_of v)))
+    ∙ tables_then n v.tables last fit.tables ∙ ap (or_value (option_map padded (text_with_name name (texts_of v)))) none ∙ grind arith
 
 read_all : (ks : List BlockValue) → read (map (λ k. Ok (flat k)) ks) ≡ map flat ks
 read_all [] = refl
@@ -229,10 +138,6 @@ none_refused : (ks : List BlockValue) → all_read (map (λ k. Ok (flat k)) ks) 
 none_refused [] = refl
 none_refused (k ∷ ks) = none_refused ks
 
--- the numbers
-padded_whole : (x : List ℕ) → length x % 4 ≡ 0 → padded x ≡ x
-padded_whole x e = let none : up_to_four (length x) - length x ≡ 0 = omega (arith, e) in ap (λ (n : ℕ). x ++ replicate n 0) none ∙ append-nil x
-
 numbers_found : (v : Value) → value_in (codes "VS_VERSION_INFO") (flat_blocks v) ≡ Some (padded (fixed_bytes v.fixed))
 unfolding flat_blocks root_block
 numbers_found v = rw (same_key (codes "VS_VERSION_INFO") (from_plain (codes "VS_VERSION_INFO") refl) refl) refl
@@ -241,39 +146,16 @@ record_by : (t : Bool) (x y : VsFixedFileInfo) → t ≡ true → x ≡ y → �
 record_by t x y e i = rw (e, i) refl
 
 numbers_read : (v : Value) → NumbersFit v → fixed_info_in (Some (padded (fixed_bytes v.fixed))) ≡ Ok (Some v.fixed)
-numbers_read v fit =
-    let b : List ℕ = fixed_bytes v.fixed in
-    let size : length b ≡ 52 = length-fixed v.fixed in
-    ap (λ (l : List ℕ). fixed_info_in (Some l)) (padded_whole b (ap (λ (n : ℕ). n % 4) size)) ∙ record_by (holds b 0 52) (fixed_info_at b 0) v.fixed (grind (arith, nat_tests, size)) (fixed_read v.fixed fit.fixed)
+numbers_read v fit = grind (arith, length-fixed, nat_tests, fixed_read, append-nil)
 
 fixed_is : (v : Value) (s : List ℕ) → NumbersFit v → version_of v ≡ Ok s → fixed_info_of s ≡ Ok (Some v.fixed)
 unfolding fixed_info_of
 fixed_is v s fit e =
-    ap (λ l. all_read l >>= λ _. fixed_info_in (value_of (codes "VS_VERSION_INFO") (read l))) (strings_are v s e)
-    ∙ ap (λ r. r >>= λ _. fixed_info_in (value_of (codes "VS_VERSION_INFO") (read (map (λ k. Ok (flat k)) (flat_blocks v))))) (none_refused (flat_blocks v))
-    ∙ ap (λ (l : List VersionString). fixed_info_in (value_of (codes "VS_VERSION_INFO") l)) (read_all (flat_blocks v))
-    ∙ ap fixed_info_in (numbers_found v) ∙ numbers_read v fit
+    grind (arith, strings_are v s e, none_refused (flat_blocks v), read_all (flat_blocks v), numbers_found v, numbers_read v fit)
 
 pub version_is : (v : Value) (s : List ℕ) → NumbersFit v → version_of v ≡ Ok s → version_in s ≡ Ok (record { fixed_info = Some v.fixed; strings = file_strings (map flat (flat_blocks v)) })
 unfolding version_in
-version_is v s fit e =
-    ap (λ r. r >>= λ f. Ok (record { fixed_info = f; strings = file_strings (read (strings s)) })) (fixed_is v s fit e)
-    ∙ ap (λ l. Ok (record { fixed_info = Some v.fixed; strings = file_strings (read l) })) (strings_are v s e)
-    ∙ ap (λ (l : List VersionString). Ok (record { fixed_info = Some v.fixed; strings = file_strings l })) (read_all (flat_blocks v))
-
-by_name : (n : VersionName) (ss : List VersionString) → value_named n (file_strings ss) ≡ value_of (version_key n) ss
-by_name names.Comments ss = refl
-by_name names.CompanyName ss = refl
-by_name names.FileDescription ss = refl
-by_name names.FileVersion ss = refl
-by_name names.InternalName ss = refl
-by_name names.LegalCopyright ss = refl
-by_name names.LegalTrademarks ss = refl
-by_name names.OriginalFilename ss = refl
-by_name names.PrivateBuild ss = refl
-by_name names.ProductName ss = refl
-by_name names.ProductVersion ss = refl
-by_name names.SpecialBuild ss = refl
+version_is v s fit e = grind (arith, fixed_is v s fit e, strings_are v s e, read_all (flat_blocks v))
 
 ok_same : (x y : VersionView) → ◌≡◌ {A = Result VersionView Refusal} (Ok x) (Ok y) → x ≡ y
 ok_same x y e = cc
@@ -281,4 +163,4 @@ ok_same x y e = cc
 pub text_is : (v : Value) (s : List ℕ) (n : VersionName) (w : VersionView) → NumbersFit v → version_of v ≡ Ok s → version_in s ≡ Ok w → value_named n w.strings ≡ option_map padded (text_with_name (version_key n) (texts_of v))
 text_is v s n w fit e is =
     ap (λ (x : VersionView). value_named n x.strings) (ok_same w (record { fixed_info = Some v.fixed; strings = file_strings (map flat (flat_blocks v)) }) (sym is ∙ version_is v s fit e))
-    ∙ by_name n (map flat (flat_blocks v)) ∙ value_found v n fit
+    ∙ grind arith ∙ value_found v n fit

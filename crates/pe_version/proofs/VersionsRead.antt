@@ -1,24 +1,18 @@
 -- Version information that is written is read.
-use Rattle.std.proofs.Common.{◌≡◌, ℕ, ◌+◌, ◌*◌, ◌/◌, ◌%◌, ◌^◌, ◌<◌, ◌≤◌, ◌&&◌, Bool, true, false, List, [], ◌∷◌, ◌++◌, length, drop, map, Option, Some, None, Result, Ok, if◌then◌else◌, refl, ap, sym, ◌∙◌, arith, length-append}
-use Rattle.std.specs.Prelude.{codes, nat_le}
-use Rattle.std.specs.List.{flat_map}
-use Rattle.std.proofs.lemmas.Bool.Decides.{nat_tests}
-use Rattle.std.proofs.lemmas.List.{append-nil, drop_at}
-use Rattle.pe_core.specs.Bytes.{le, bytes_of}
+use Rattle.std.proofs.Common.{◌≡◌, ℕ, ◌+◌, ◌*◌, ◌<◌, ◌≤◌, Bool, true, false, List, [], ◌∷◌, ◌++◌, length, drop, map, Some, Result, Ok, refl, ap, sym, ◌∙◌, arith, length-append}
+use Rattle.pe_version.proofs.Cited.{codes, flat_map, nat_tests, append-nil, drop_at, le, bytes_of, outcome, length-bytes_of, Block}
+use Rattle.pe_version.proofs.Cited.{BlockRefusal, blocks, children_with_key, fixed_info_of_block, string_tables, translation_at}
+use Rattle.pe_version.proofs.Cited.{translation_of_key, translations, value_with_key, version_block, fixed_info_at, units}
+use Rattle.pe_version.proofs.Cited.{VsFixedFileInfo, Translation, Stands, whole, left, number, moved, rest_of_number, block_tests}
+use Rattle.pe_version.proofs.Cited.{AllPairs, FixedFits, IsPair, NumbersFit, TableValue, TablesHavePairs, TextValue, Value}
+use Rattle.pe_version.proofs.Cited.{VersionRead, all_blocks, as_read, blocks_of_table, fixed_bytes, four_digits, hex_digit, key_of}
+use Rattle.pe_version.proofs.Cited.{read_root, read_table, read_text, root_block, strings_block, table_as_read, table_block}
+use Rattle.pe_version.proofs.Cited.{table_blocks, text_block, translation_block, translation_bytes, utf16, variables_block}
+use Rattle.pe_version.proofs.Cited.{version_of, version_read, AllFit, BlockValue, Fits, blocks_bytes, padded_block, read_block}
+use Rattle.pe_version.proofs.Cited.{after-nil}
 use Rattle.pe_core.specs.HexDigits.{digit_of, number_after}
-use Rattle.pe_core.specs.Refusals.{outcome}
 use Rattle.pe_core.specs.Rows.{ReadsAfter, whole_entries}
 use Rattle.pe_core.proofs.EntryItems.{le_after, whole_entries_more, whole_entries_none}
-use Rattle.pe_core.proofs.Splices.{length-bytes_of}
-use Rattle.pe_resource.specs.VersionBlocks.{root_of, Block, BlockRefusal, blocks, children_with_key, first_block, fixed_info_of_block, string_tables, translation_at, translation_of_key, translations, value_with_key, version_block}
-use Rattle.pe_resource.specs.VersionFields.{fixed_info_at}
-use Rattle.pe_resource.specs.VersionStrings.{units}
-use Rattle.pe_resource.specs.declared.version.VsFixedFileInfo.{VsFixedFileInfo}
-use Rattle.pe_resource.specs.declared.version_block.Translation.{Translation}
-use Rattle.pe_edit.proofs.Stands.{Stands, whole, left, number, moved, rest_of_number}
-use Rattle.pe_version.specs.VersionRefusals.{block_tests}
-use Rattle.pe_version.specs.VersionValues.{AllPairs, FixedFits, IsPair, NumbersFit, TableRead, TableValue, TablesHavePairs, TextValue, Value, VersionRead, all_blocks, as_read, blocks_of_table, fixed_bytes, four_digits, hex_digit, key_of, read_root, read_table, read_text, root_block, strings_block, table_as_read, table_block, table_blocks, text_block, text_blocks, translation_block, translation_bytes, utf16, variables_block, version_of, version_read}
-use Rattle.pe_version.specs.WrittenBlocks.{AllFit, BlockValue, Fits, blocks_bytes, padded_block, read_block}
 use Rattle.pe_version.proofs.Blocks.{blocks_read, first_read}
 use Rattle.pe_version.proofs.Tests.{fits_if}
 
@@ -62,9 +56,6 @@ texts_as_read : (ss : List TextValue) → map read_text (map (λ k. Ok (read_blo
 texts_as_read [] = refl
 texts_as_read (s ∷ ss) = ap (λ (l : List (Result TextValue BlockRefusal)). Ok s ∷ l) (texts_as_read ss)
 
-texts_read : (ss : List TextValue) → AllFit (map text_block ss) → map read_text (blocks (text_blocks ss)) ≡ map (λ s. Ok s) ss
-texts_read ss f = ap (map read_text) (blocks_read (map text_block ss) f) ∙ texts_as_read ss
-
 -- ---- the key of a table
 
 digit_read : (d : ℕ) → d < 16 → digit_of (hex_digit d) ≡ Some d
@@ -76,26 +67,11 @@ unfolding number_after
 next_digit front d more h = rw (digit_read d h) refl
 
 four_read : (front n : ℕ) (more : List ℕ) → n < 65536 → number_after front (four_digits n ++ more) ≡ number_after (65536 * front + n) more
-four_read front n more h =
-    next_digit front (n / 4096) _ (omega (arith, h))
-    ∙ next_digit (16 * front + n / 4096) (n / 256 % 16) _ (omega arith)
-    ∙ next_digit (16 * (16 * front + n / 4096) + n / 256 % 16) (n / 16 % 16) _ (omega arith)
-    ∙ next_digit (16 * (16 * (16 * front + n / 4096) + n / 256 % 16) + n / 16 % 16) (n % 16) more (omega arith)
-    ∙ ap (λ (m : ℕ). number_after m more) (omega (arith, h))
-
-no_more : (front : ℕ) → number_after front [] ≡ Some front
-unfolding number_after
-no_more front = refl
+four_read front n more h = grind (arith, next_digit)
 
 pub units_of : (cs : List ℕ) → units (utf16 cs) ≡ cs
 units_of [] = refl
 units_of (c ∷ cs) = let e : c + 256 * 0 ≡ c = omega arith in rw (e, units_of cs) refl
-
-pair_read : (l c n : ℕ) → n ≡ 65536 * l + c → l < 65536 → c < 65536 → ◌≡◌ {A = Translation} (record { language = n / 2 ^ 16; code_page = n % 2 ^ 16 }) (record { language = l; code_page = c })
-pair_read l c n e h i =
-    let one : n / 2 ^ 16 ≡ l = omega (arith, e, h, i) in
-    let two : n % 2 ^ 16 ≡ c = omega (arith, e, h, i) in
-    rw (one, two) refl
 
 key_read : (t : Translation) → IsPair t → translation_of_key (key_of t) ≡ Some t
 unfolding translation_of_key
@@ -105,13 +81,13 @@ key_read t p =
     ∙ four_read 0 t.language (four_digits t.code_page) p.0
     ∙ ap (λ (l : List ℕ). number_after (65536 * 0 + t.language) l) (sym (append-nil (four_digits t.code_page)))
     ∙ four_read (65536 * 0 + t.language) t.code_page [] p.1
-    ∙ ap (λ (m : ℕ). number_after m []) (omega arith) ∙ no_more (65536 * t.language + t.code_page) in
-    rw number (ap (λ (x : Translation). Some x) (pair_read t.language t.code_page (65536 * t.language + t.code_page) refl p.0 p.1))
+    ∙ ap (λ (m : ℕ). number_after m []) (omega arith) ∙ after-nil (65536 * t.language + t.code_page) in
+    rw number (ap (λ (x : Translation). Some x) (grind (arith, p.0, p.1)))
 
 -- ---- tables
 
 table_read : (t : TableValue) → AllFit (map text_block t.strings) → IsPair t.translation → read_table (Ok (read_block (table_block t))) ≡ table_as_read t
-table_read t f p = rw (key_read t.translation p, texts_read t.strings f) refl
+table_read t f p = grind (arith, key_read, blocks_read, texts_as_read)
 
 tables_as_read : (ts : List TableValue) → TablesFit ts → TablesHavePairs ts → map read_table (map (λ k. Ok (read_block k)) (map table_block ts)) ≡ map table_as_read ts
 tables_as_read [] f p = refl
@@ -122,7 +98,7 @@ tables_read ts f p = ap (map read_table) (blocks_read (map table_block ts) (tabl
 
 -- ---- translations
 
-length-translation : (t : Translation) → length (translation_bytes t) ≡ 4
+pub length-translation : (t : Translation) → length (translation_bytes t) ≡ 4
 length-translation t = length-append (bytes_of 2 t.language) (bytes_of 2 t.code_page) ∙ omega (arith, length-bytes_of 2 t.language, length-bytes_of 2 t.code_page)
 
 translation_read : (t : Translation) (more : List ℕ) → IsPair t → translation_at (translation_bytes t ++ more) 0 ≡ t
@@ -198,11 +174,6 @@ length-fixed f = simp (length-append, length-bytes_of) refl
 
 -- ---- the first block
 
-root_children : (v : Value) → AllFit (strings_block v.tables ∷ variables_block v.translations ∷ []) →
-    blocks (read_block (root_block v)).children ≡ Ok (read_block (strings_block v.tables)) ∷ Ok (read_block (variables_block v.translations)) ∷ []
-unfolding root_block
-root_children v f = blocks_read (strings_block v.tables ∷ variables_block v.translations ∷ []) f
-
 strings_found : (k : Block) (ts : List TableValue) (ps : List Translation) → blocks k.children ≡ Ok (read_block (strings_block ts)) ∷ Ok (read_block (variables_block ps)) ∷ [] → string_tables k ≡ Ok (table_blocks ts)
 unfolding children_with_key
 strings_found k ts ps e = rw e refl
@@ -220,39 +191,25 @@ translations_found : (k : Block) (ts : List TableValue) (ps : List Translation) 
     translations k ≡ Ok (flat_map translation_bytes ps)
 translations_found k ts ps f e = rw (variables_found k ts ps e) (pairs_found ps f)
 
-fixed_by : (f : VsFixedFileInfo) (x : VsFixedFileInfo) (long : Bool) → long ≡ true → x ≡ f → ◌≡◌ {A = Option VsFixedFileInfo} (if true && long then Some x else None) (Some f)
-fixed_by f x long e i = rw (e, i) refl
-
 fixed_found : (v : Value) → FixedFits v.fixed → fixed_info_of_block (read_block (root_block v)) ≡ Some v.fixed
 unfolding root_block
-fixed_found v h =
-    fixed_by v.fixed (fixed_info_at (fixed_bytes v.fixed) 0) (nat_le 52 (length (fixed_bytes v.fixed)))
-    (let e : length (fixed_bytes v.fixed) ≡ 52 = length-fixed v.fixed in rw e refl) (fixed_read v.fixed h)
-
-read_of : (f g : Option VsFixedFileInfo) (t u : List (Result TableRead BlockRefusal)) (p q : List Translation) → f ≡ g → t ≡ u → p ≡ q →
-    ◌≡◌ {A = VersionRead} (record { fixed = f; tables = t; translations = p }) (record { fixed = g; tables = u; translations = q })
-read_of f g t u p q e h i = rw (e, h, i) refl
+fixed_found v h = grind (arith, length-fixed, fixed_read)
 
 root_read : (v : Value) → NumbersFit v → TablesFit v.tables → AllFit (strings_block v.tables ∷ variables_block v.translations ∷ []) → AllFit (translation_block v.translations ∷ []) →
     read_root (read_block (root_block v)) ≡ Ok (as_read v)
-unfolding read_root as_read
+unfolding read_root as_read root_block
 root_read v n t c p =
     let k : Block = read_block (root_block v) in
-    let below = root_children v c in
+    let below = blocks_read (strings_block v.tables ∷ variables_block v.translations ∷ []) c in
     rw (strings_found k v.tables v.translations below, translations_found k v.tables v.translations p below)
-    (ap (λ (r : VersionRead). Ok r) (read_of _ _ _ _ _ _ (fixed_found v n.fixed) (tables_read v.tables t n.tables) (translations_read v.translations n.translations)))
+    (ap (λ (r : VersionRead). Ok r) (rw ((fixed_found v n.fixed), (tables_read v.tables t n.tables), (translations_read v.translations n.translations)) refl))
 
 first_found : (v : Value) → Fits (root_block v) → version_block (padded_block (root_block v)) ≡ Ok (Some (read_block (root_block v)))
-first_found v f =
-    ap (λ (b : List ℕ). root_of (first_block b)) (sym (append-nil (padded_block (root_block v))))
-    ∙ ap root_of (first_read (root_block v) [] f)
+first_found v f = grind (arith, append-nil (padded_block (root_block v)), first_read (root_block v) [] f)
 
 whole_read : (v : Value) → NumbersFit v → AllFit (all_blocks v) → version_read (padded_block (root_block v)) ≡ Ok (Some (as_read v))
 unfolding all_blocks version_read
-whole_read v n f =
-    let p = left_fit (flat_map blocks_of_table v.tables) (strings_block v.tables ∷ translation_block v.translations ∷ variables_block v.translations ∷ root_block v ∷ []) f in
-    let root : Fits (root_block v) = p.1.1.1.1.0 in
-    rw (first_found v root, root_read v n (tables_fit v.tables p.0) (p.1.0, (p.1.1.1.0, tt)) (p.1.1.0, tt)) refl
+whole_read v n f = grind (arith, left_fit, first_found, root_read, tables_fit)
 
 pub value_is : {Y R : Type 0} (tests : List (Bool × R)) (x y : Y) → outcome tests x ≡ Ok y → y ≡ x
 value_is [] x y h = cc
@@ -261,6 +218,4 @@ value_is ((false, r) ∷ tests) x y h = absurd cc
 
 pub version_is_read : (v : Value) (s : List ℕ) → NumbersFit v → version_of v ≡ Ok s → version_read s ≡ Ok (Some (as_read v))
 unfolding version_of
-version_is_read v s n e =
-    let fits : AllFit (all_blocks v) = all_fit (all_blocks v) (padded_block (root_block v)) s e in
-    ap version_read (value_is (flat_map block_tests (all_blocks v)) (padded_block (root_block v)) s e) ∙ whole_read v n fits
+version_is_read v s n e = grind (arith, all_fit, value_is, whole_read)

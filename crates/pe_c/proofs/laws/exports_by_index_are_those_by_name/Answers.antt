@@ -1,14 +1,13 @@
+use Rattle.std.proofs.Common.{rules}
 use Rattle.calls_directories.proofs.AddressEntries as entries
 use Rattle.pe_c.proofs.laws.exports_by_index_are_those_by_name.Goals as goal
 
-pub returns-clause-addresses : goal.returns-clause-addresses
-returns-clause-addresses c = entries.addresses_stand
-
-pub returns-clause-name : goal.returns-clause-name
-returns-clause-name c = entries.names_stand
-
-pub returns-clause-forwarders : goal.returns-clause-forwarders
-returns-clause-forwarders c = entries.forwarders
-
-pub returns-clause-named_forwarders : goal.returns-clause-named_forwarders
-returns-clause-named_forwarders c = entries.named_forwarders
+pub returns : goal.returns
+returns c = record {
+  addresses = entries.addresses_stand;
+  name = entries.names_stand;
+  forwarders = entries.forwarders;
+  named = search rules;
+  named_forwarders = entries.named_forwarders;
+  named_texts = search rules;
+}

@@ -1,10 +1,7 @@
 use Rattle.std.proofs.Common.{◌≡◌, ℕ, ◌++◌, List, length, true, leb, Ok, arith, rules, ap, ◌∙◌}
-use Rattle.std.proofs.lemmas.Bool.Decides.{nat_tests}
-use Rattle.std.specs.Prelude.{drop}
-use Rattle.pe_core.specs.Bytes.{range, splice}
+use Rattle.pe_c.proofs.Cited.{nat_tests, drop, range, splice, stream_numbered}
 use Rattle.pe_pdb.specs.Streams.{stream_bytes, stream_view}
 use Rattle.pe_pdb.proofs.StreamBytes.{length_stream}
-use Rattle.calls_pdb.specs.Pdbs.{stream_numbered}
 use Rattle.calls_pdb.proofs.PdbStreams.{whole_put}
 use Rattle.pe_c.proofs.pdb.pe_c_pdb_stream.Goals as goal
 

@@ -1,13 +1,9 @@
-use Rattle.std.proofs.Common.{sym}
-use Rattle.std.proofs.lemmas.Bool.{eqb-true}
-use Rattle.calls_write.specs.VersionWrites.{block_at, block_with}
-use Rattle.calls_base.proofs.WrittenFiles.{file_asked, file_short_after}
+use Rattle.std.proofs.Common.{rules, arith}
+use Rattle.pe_c.proofs.Cited.{eqb-true, block_at, block_with, file_asked, file_short_after}
 use Rattle.pe_c.proofs.write.pe_c_write_block.Goals as goal
 
 pub returns-then-is_empty : goal.returns-then-is_empty
-returns-then-is_empty c =
-    file_asked (block_at (block_with c.args.key.now c.args.is_text c.args.value.now c.args.children.now)) c.block_length.result c.hand_out_length.result c.args.written.now c.hand_out_length.new.out c.args.room.now
-    (eqb-true _ _ (sym c.if-is_empty.ensures)) c.block_length.ensures c.hand_out_length.ensures
+returns-then-is_empty c = search (rules, arith, file_asked, eqb-true)
 
 pub returns-then-number-eq-WRITE_FIT : goal.returns-then-number-eq-WRITE_FIT
 returns-then-number-eq-WRITE_FIT c =

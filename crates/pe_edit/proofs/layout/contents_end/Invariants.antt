@@ -1,6 +1,5 @@
 use Rattle.std.proofs.Common.{◌≡◌, ◌+◌, drop}
-use Rattle.pe_edit.specs.Views.{leaf_views}
-use Rattle.pe_edit.specs.Written.{padded_size, total}
+use Rattle.pe_edit.proofs.Cited.{leaf_views, padded_size, total}
 use Rattle.pe_edit.proofs.layout.contents_end.Given as goal
 
 -- the contents so far are added

@@ -1,6 +1,5 @@
-use Rattle.std.proofs.Common.{◌≡◌, ◌+◌, ◌-◌, ◌<◌, ◌∙◌, false, length, arith}
-use Rattle.std.specs.Prelude.{nat_lt}
-use Rattle.std.proofs.lemmas.Bool.Decides.{nat_tests}
+use Rattle.std.proofs.Common.{◌≡◌, ◌+◌, ◌-◌, ◌<◌, ◌∙◌, false, length, arith, rules}
+use Rattle.pe_edit.proofs.Cited.{nat_lt, nat_tests}
 use Rattle.pe_edit.proofs.Units.{first_test, second_ends, units_differ, units_equal}
 use Rattle.pe_edit.proofs.leaf.units_before.Goals as goal
 use Rattle.pe_edit.proofs.leaf.units_before.Goals.{then-loop-at-test+else-second-at-ge2, else-loop-at-test}
@@ -11,13 +10,7 @@ returns-then-own-other c =
     c.read_u16-own.ensures c.read_u16-other.ensures (grind (arith, nat_tests, c.if-own-other.true)) c.loop-at.invariant.same
 
 pub loop-at-preserved : goal.loop-at-preserved
-loop-at-preserved c = record {
-  first = omega (arith, c.loop-at-test.true, c.loop-at.invariant.first);
-  second = omega (arith, c.if-second-at-ge2.true, c.loop-at.invariant.second);
-  same =
-      units_equal c.args.first.now c.args.second.now c.loop-at.at c.read_u16-own.result c.read_u16-other.result _ (omega (arith, c.loop-at-test.true, c.loop-at.invariant.first)) (omega (arith, c.if-second-at-ge2.true, c.loop-at.invariant.second))
-      c.read_u16-own.ensures c.read_u16-other.ensures (grind (arith, nat_tests, c.if-own-other.false)) c.loop-at.invariant.same;
-}
+loop-at-preserved c = search (rules, arith, units_equal, nat_tests)
 
 pub returns-then-first-at-lt2 : goal.returns-then-first-at-lt2
 returns-then-first-at-lt2 c =

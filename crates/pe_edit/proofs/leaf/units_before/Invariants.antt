@@ -1,6 +1,5 @@
 use Rattle.std.proofs.Common.{◌≡◌, ◌≤◌, ◌-◌, drop, length}
-use Rattle.pe_resource.specs.VersionStrings.{units}
-use Rattle.pe_edit.specs.Sorted.{units_before}
+use Rattle.pe_edit.proofs.Cited.{units, units_before}
 use Rattle.pe_edit.proofs.leaf.units_before.Given as goal
 
 -- the code units so far are equal

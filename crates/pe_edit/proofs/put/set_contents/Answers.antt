@@ -1,8 +1,8 @@
 use Rattle.std.proofs.Common.{arith}
+use Rattle.std.proofs.lemmas.Grind.{common_steps}
 use Rattle.pe_edit.proofs.Contents.{all_contents_written, content_more, content_room}
 use Rattle.pe_edit.proofs.Writing.{nothing_written}
-use Rattle.pe_edit.specs.Views.{leaf_view, leaf_views}
-use Rattle.pe_edit.specs.Written.{contents}
+use Rattle.pe_edit.proofs.Cited.{leaf_view, leaf_views, contents}
 use Rattle.pe_edit.proofs.put.set_contents.Goals as goal
 
 pub loop-index-init : goal.loop-index-init
@@ -14,9 +14,7 @@ set_padded-end-requires c = record {
 }
 
 pub loop-index-preserved : goal.loop-index-preserved
-loop-index-preserved c =
-    content_more c.args.out.now c.loop-index.out c.set_padded-end.new.out c.args.at c.loop-index.end c.set_padded-end.result c.loop-index.index (leaf_views c.args.leaves.now) (leaf_view c.at.result) (omega (arith, c.loop-index-test.true, c.len-count.ensures)) c.at.ensures
-    c.loop-index.invariant c.set_padded-end.ensures.after c.set_padded-end.ensures.end
+loop-index-preserved c = grind (arith, common_steps, content_more)
 
 pub returns : goal.returns
 returns c =

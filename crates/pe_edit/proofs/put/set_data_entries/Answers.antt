@@ -1,7 +1,5 @@
 use Rattle.std.proofs.Common.{rules, ℕ, ◌+◌, ◌<◌, ap, arith, refl}
-use Rattle.std.specs.Prelude.{length}
-use Rattle.pe_edit.specs.Views.{leaf_view, leaf_views}
-use Rattle.pe_edit.specs.Written.{padded_length}
+use Rattle.pe_edit.proofs.Cited.{length, leaf_view, leaf_views, padded_length}
 use Rattle.pe_edit.proofs.Contents.{all_data_written, data_more, data_room, data_small, no_data_written, size_small}
 use Rattle.pe_edit.proofs.put.set_data_entries.Goals as goal
 
@@ -9,10 +7,7 @@ pub loop-index-init : goal.loop-index-init
 loop-index-init c = no_data_written c.args.out.now c.args.at c.args.first (leaf_views c.args.leaves.now) c.requires.room c.requires.fits
 
 pub overflow_cast-rva : goal.overflow_cast-rva
-overflow_cast-rva c =
-    let small : c.loop-index.rva + padded_length (length c.at-leaf.result.content.now) < 4294967296 =
-    data_small c.args.out.now c.loop-index.out c.args.at c.loop-index.end c.args.first c.loop-index.rva c.loop-index.index (leaf_views c.args.leaves.now) (leaf_view c.at-leaf.result) (omega (arith, c.loop-index-test.true, c.len-count.ensures)) c.at-leaf.ensures c.loop-index.invariant in
-    search (rules, small)
+overflow_cast-rva c = search (rules, arith, data_small)
 
 pub overflow_cast-size : goal.overflow_cast-size
 overflow_cast-size c =
@@ -41,7 +36,4 @@ returns c =
     all_data_written c.args.out.now c.loop-index.out c.args.at c.loop-index.end c.args.first c.loop-index.rva c.loop-index.index (leaf_views c.args.leaves.now) (omega (arith, c.loop-index-test.false, c.len-count.ensures)) c.loop-index.invariant
 
 pub padded_length-padded-requires : goal.padded_length-padded-requires
-padded_length-padded-requires c =
-    let small : length c.at-leaf.result.content.now < 4294967296 =
-    size_small c.args.out.now c.loop-index.out c.args.at c.loop-index.end c.args.first c.loop-index.rva c.loop-index.index (leaf_views c.args.leaves.now) (leaf_view c.at-leaf.result) (omega (arith, c.loop-index-test.true, c.len-count.ensures)) c.at-leaf.ensures c.loop-index.invariant in
-    search (rules, small)
+padded_length-padded-requires c = search (rules, arith, size_small)

@@ -1,7 +1,5 @@
 use Rattle.std.proofs.Common.{Bool, Ok, Err, ap, ◌∙◌, sym}
-use Rattle.std.specs.Prelude.{if◌then◌else◌, nat_le}
-use Rattle.pe_edit.specs.RecordRefusals.{Contents, content_length}
-use Rattle.pe_edit.specs.Written.{total}
+use Rattle.pe_edit.proofs.Cited.{if◌then◌else◌, nat_le, Contents, content_length, total}
 use Rattle.pe_edit.proofs.Records.{few_enough, one_added, too_many}
 use Rattle.pe_edit.proofs.record.require_contents.Goals as goal
 

@@ -1,6 +1,5 @@
 use Rattle.std.proofs.Common.{◌≡◌, drop}
-use Rattle.std.specs.List.{list_all}
-use Rattle.pe_edit.specs.RecordRefusals.{record_fits}
+use Rattle.pe_edit.proofs.Cited.{list_all, record_fits}
 use Rattle.pe_edit.proofs.record.require_fits.Given as goal
 
 -- the records so far fit

@@ -1,7 +1,5 @@
 use Rattle.std.proofs.Common.{◌≡◌, true, refl}
-use Rattle.std.specs.Prelude.{nat_le}
-use Rattle.pe_edit.specs.RecordRefusals.{names_length}
-use Rattle.pe_edit.specs.Written.{total}
+use Rattle.pe_edit.proofs.Cited.{nat_le, names_length, total}
 use Rattle.pe_edit.proofs.Records.{all_names}
 use Rattle.pe_edit.proofs.record.require_names.Goals as goal
 

@@ -1,7 +1,5 @@
 use Rattle.std.proofs.Common.{◌≡◌, drop}
-use Rattle.std.specs.List.{list_all}
-use Rattle.pe_edit.specs.Views.{leaf_views}
-use Rattle.pe_edit.specs.Written.{names_fit}
+use Rattle.pe_edit.proofs.Cited.{list_all, leaf_views, names_fit}
 use Rattle.pe_edit.proofs.section.require_names.Given as goal
 
 -- the leaves so far fit

@@ -1,6 +1,5 @@
 use Rattle.std.proofs.Common.{◌≡◌, ◌∙◌, false, arith, refl, sym}
-use Rattle.pe_edit.specs.Sorted.{is_sorted}
-use Rattle.pe_edit.specs.Views.{leaf_view, leaf_views}
+use Rattle.pe_edit.proofs.Cited.{is_sorted, leaf_view, leaf_views}
 use Rattle.pe_edit.proofs.Tests.{one_unsorted}
 use Rattle.pe_edit.proofs.section.require_order.Goals as goal
 

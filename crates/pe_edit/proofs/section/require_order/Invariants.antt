@@ -1,6 +1,5 @@
 use Rattle.std.proofs.Common.{◌≡◌, ◌<◌, ◌-◌, drop}
-use Rattle.pe_edit.specs.Sorted.{is_sorted}
-use Rattle.pe_edit.specs.Views.{leaf_views}
+use Rattle.pe_edit.proofs.Cited.{is_sorted, leaf_views}
 use Rattle.pe_edit.proofs.section.require_order.Given as goal
 
 -- the leaves so far are sorted

@@ -1,8 +1,5 @@
 use Rattle.std.proofs.Common.{◌≡◌, ◌+◌, ◌<◌, ◌∙◌, sym, refl, arith, true}
-use Rattle.std.specs.List.{list_all}
-use Rattle.pe_edit.specs.Sorted.{is_sorted}
-use Rattle.pe_edit.specs.Views.{leaf_views}
-use Rattle.pe_edit.specs.Written.{names_fit, section_length}
+use Rattle.pe_edit.proofs.Cited.{list_all, is_sorted, leaf_views, names_fit, section_length}
 use Rattle.pe_edit.proofs.Tests.{each_passes, ends_none, ends_some, layout_returned, one_test, too_large}
 use Rattle.pe_edit.proofs.section.section_layout.Goals as goal
 

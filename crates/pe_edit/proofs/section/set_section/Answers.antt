@@ -1,6 +1,5 @@
-use Rattle.std.proofs.Common.{rules, ◌<◌, ◌≤◌, ◌++◌, arith}
-use Rattle.pe_edit.specs.Views.{leaf_views}
-use Rattle.pe_edit.specs.Written.{contents, section_at}
+use Rattle.std.proofs.Common.{rules, ◌<◌, ◌++◌, arith}
+use Rattle.pe_edit.proofs.Cited.{leaf_views, contents, section_at}
 use Rattle.pe_edit.proofs.Composed.{after_entries, after_first, after_languages, after_names, after_type_names, after_types, at_0, at_1, at_2, at_3, data_fits, first, first_fits, languages_fit, languages_low, layout_is, names_before, room_1, room_2, room_3, room_4, room_5, room_6, room_7, room_8, stage_4, stage_5, stage_6, stage_7, stage_8, types_fit, types_low}
 use Rattle.pe_edit.proofs.Writing.{Written}
 use Rattle.pe_edit.proofs.section.set_section.Goals as goal
@@ -22,8 +21,7 @@ set_directory-requires-clause-room c =
     room_1 c.args.out.now c.args.out.now c.args.layout c.args.rva (leaf_views c.args.leaves.now) (layout_is c.args.layout (leaf_views c.args.leaves.now) c.requires.layout) w0
 
 pub set_directory-requires-clause-parts : goal.set_directory-requires-clause-parts
-set_directory-requires-clause-parts c =
-    first_fits c.args.layout c.args.rva (leaf_views c.args.leaves.now) c.requires.layout c.requires.fits
+set_directory-requires-clause-parts c = search (rules, arith, first_fits)
 
 pub set_directories-requires-clause-room : goal.set_directories-requires-clause-room
 set_directories-requires-clause-room c =
@@ -32,8 +30,7 @@ set_directories-requires-clause-room c =
     room_2 c.args.out.now c.set_directory.new.out c.args.layout c.args.rva (leaf_views c.args.leaves.now) w1
 
 pub set_directories-requires-clause-parts : goal.set_directories-requires-clause-parts
-set_directories-requires-clause-parts c =
-    types_fit c.args.layout c.args.rva (leaf_views c.args.leaves.now) c.requires.layout c.requires.fits
+set_directories-requires-clause-parts c = search (rules, arith, types_fit)
 
 pub set_directories-requires-2-clause-room : goal.set_directories-requires-2-clause-room
 set_directories-requires-2-clause-room c =
@@ -42,8 +39,7 @@ set_directories-requires-2-clause-room c =
     room_3 c.args.out.now c.set_directories.new.out c.args.layout c.args.rva (leaf_views c.args.leaves.now) w2
 
 pub set_directories-requires-2-clause-parts : goal.set_directories-requires-2-clause-parts
-set_directories-requires-2-clause-parts c =
-    languages_fit c.args.layout c.args.rva (leaf_views c.args.leaves.now) c.requires.layout c.requires.fits
+set_directories-requires-2-clause-parts c = search (rules, arith, languages_fit)
 
 pub set_data_entries-requires-clause-room : goal.set_data_entries-requires-clause-room
 set_data_entries-requires-clause-room c =
@@ -52,8 +48,7 @@ set_data_entries-requires-clause-room c =
     omega (arith, room_4 c.args.out.now c.set_directories-2.new.out c.args.layout c.args.rva (leaf_views c.args.leaves.now) w3)
 
 pub set_data_entries-requires-clause-fits : goal.set_data_entries-requires-clause-fits
-set_data_entries-requires-clause-fits c =
-    data_fits c.args.layout c.args.rva (leaf_views c.args.leaves.now) c.requires.layout c.requires.fits
+set_data_entries-requires-clause-fits c = search (rules, arith, data_fits)
 
 pub set_names-requires-clause-room : goal.set_names-requires-clause-room
 set_names-requires-clause-room c =
@@ -74,9 +69,7 @@ set_names-requires-2-clause-room c =
     room_6 c.args.out.now c.set_names.new.out c.args.layout c.args.rva (leaf_views c.args.leaves.now) w5
 
 pub overflow_sub-layout : goal.overflow_sub-layout
-overflow_sub-layout c =
-    let before : c.args.layout.names_end ≤ c.args.layout.contents = names_before c.args.layout (leaf_views c.args.leaves.now) c.requires.layout in
-    search (rules, before)
+overflow_sub-layout c = search (rules, arith, names_before)
 
 pub set_zeros-requires : goal.set_zeros-requires
 set_zeros-requires c =

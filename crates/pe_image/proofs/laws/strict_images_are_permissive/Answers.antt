@@ -1,19 +1,9 @@
-use Rattle.std.proofs.Common.{◌≡◌, ℕ, List, Option, None, Some, Result, Ok, Err, refl, sym, ◌∙◌}
-use Rattle.pe_core.specs.Header.{HeaderView, header_at}
-use Rattle.pe_core.specs.Refusals.{Refusal, ◌>>=◌}
-use Rattle.pe_core.specs.Relocations.{directory_bytes}
-use Rattle.pe_core.specs.Sections.{sections_of}
-use Rattle.pe_core.specs.declared.data_directories.DataDirectory.{DataDirectory}
-use Rattle.pe_core.specs.declared.options.ParseMode.TheVariants.{Strict, Permissive}
-use Rattle.pe_core.specs.declared.options.ParseOptions.{ParseOptions}
-use Rattle.pe_core.specs.declared.section_table.SectionTable.{SectionTable}
-use Rattle.pe_records.specs.DebugRecords.{DebugFields, debug_data}
-use Rattle.pe_resource.specs.Resources.{ResourceView, IsResource}
-use Rattle.pe_unwind.specs.ExceptionTable.{exception_at}
-use Rattle.pe_image.specs.Core.{CoreView, core_of, core_with}
-use Rattle.pe_image.specs.Fields.{Field, IsField, field, given_value, resource_directory}
-use Rattle.pe_image.specs.Image.{ImageView, with_fields, demanded, first_fields_demanded, before_resources, debug_of, exceptions_of, relocations_of, AreResourcesOf, IsAfterCore, IsImage}
-use Rattle.pe_image.specs.Layout.{directory, alignment}
+use Rattle.std.proofs.Common.{◌≡◌, ℕ, List, Some, Result, Ok, Err, refl, sym, arith}
+use Rattle.pe_image.proofs.Cited.{HeaderView, header_at, Refusal, ◌>>=◌, directory_bytes, sections_of, DataDirectory, Strict}
+use Rattle.pe_image.proofs.Cited.{Permissive, ParseOptions, SectionTable, DebugFields, debug_data, ResourceView, IsResource}
+use Rattle.pe_image.proofs.Cited.{exception_at, CoreView, core_of, core_with, Field, given_value, ImageView, with_fields, demanded}
+use Rattle.pe_image.proofs.Cited.{first_fields_demanded, before_resources, debug_of, exceptions_of, relocations_of, AreResourcesOf}
+use Rattle.pe_image.proofs.Cited.{IsAfterCore, IsImage}
 use Rattle.pe_image.proofs.SectionsFirst.{core_before}
 use Rattle.pe_image.proofs.Steps.{first_passed}
 use Rattle.pe_image.proofs.laws.strict_images_are_permissive.Goals as goal
@@ -34,21 +24,12 @@ same_core : (b : List ℕ) (o : ParseOptions) (header : HeaderView) (sections : 
 unfolding core_with
 same_core b o header sections = refl
 
-then_core : (b : List ℕ) (o : ParseOptions) (header : HeaderView) (r : Result (List SectionTable) Refusal) (c : CoreView) → (r >>= λ sections. core_with b (strict o) header sections) ≡ Ok c → (r >>= λ sections. core_with b (permissive o) header sections) ≡ Ok c
-then_core b o header (Ok sections) c h = sym (same_core b o header sections) ∙ h
-then_core b o header (Err e) c h = absurd cc
-
 after_header : (b : List ℕ) (o : ParseOptions) (r s : Result HeaderView Refusal) (c : CoreView) → ((header : HeaderView) → r ≡ Ok header → s ≡ Ok header) → (r >>= λ header. sections_of b header >>= λ sections. core_with b (strict o) header sections) ≡ Ok c → (s >>= λ header. sections_of b header >>= λ sections. core_with b (permissive o) header sections) ≡ Ok c
-after_header b o (Ok header) s c same h = rw (same header refl) (then_core b o header (sections_of b header) c h)
-after_header b o (Err e) s c same h = absurd cc
+after_header b o r s c same h = grind (arith, same_core)
 
 -- the law of headers, as pe_core states it
 abbrev HeaderLaw : Type 0
 HeaderLaw = (b : List ℕ) (h : HeaderView) → header_at b Strict ≡ Ok h → header_at b Permissive ≡ Ok h
-
-permissive_core : HeaderLaw → (b : List ℕ) (o : ParseOptions) (c : CoreView) → core_of b (strict o) ≡ Ok c → core_of b (permissive o) ≡ Ok c
-unfolding core_of
-permissive_core law b o c h = after_header b o (header_at b Strict) (header_at b Permissive) c (law b) h
 
 -- ---- the fields
 
@@ -57,15 +38,10 @@ abbrev DebugLaw : Type 0
 DebugLaw = (o : ParseOptions) (b : List ℕ) (d : DataDirectory) (sections : List SectionTable) (unit fixup : ℕ) (x : DebugFields) → debug_data (record o { parse_mode = Strict }) b d sections unit fixup ≡ Ok x → debug_data (record o { parse_mode = Permissive }) b d sections unit fixup ≡ Ok x
 
 same_value : {X : Type 0} (r s : Result X Refusal) → ((x : X) → r ≡ Ok x → s ≡ Ok x) → demanded Strict (Some r) ≡ Ok tt → given_value (Some r) ≡ given_value (Some s)
-same_value (Ok x) s same h = rw (same x refl) refl
-same_value (Err e) s same h = absurd cc
-
-same_debug_in : DebugLaw → (b : List ℕ) (o : ParseOptions) (sections : List SectionTable) (unit : ℕ) (d : Option DataDirectory) → demanded Strict (field (λ d. debug_data (strict o) b d sections unit 0) d) ≡ Ok tt → given_value (field (λ d. debug_data (strict o) b d sections unit 0) d) ≡ given_value (field (λ d. debug_data (permissive o) b d sections unit 0) d)
-same_debug_in law b o sections unit None h = refl
-same_debug_in law b o sections unit (Some d) h = same_value (debug_data (strict o) b d sections unit 0) (debug_data (permissive o) b d sections unit 0) (law o b d sections unit 0) h
+same_value r s same h = grind arith
 
 same_debug : DebugLaw → (b : List ℕ) (o : ParseOptions) (c : CoreView) → demanded Strict (debug_of b (strict o) c) ≡ Ok tt → given_value (debug_of b (strict o) c) ≡ given_value (debug_of b (permissive o) c)
-same_debug law b o c h = same_debug_in law b o c.sections (alignment c.header.optional_header) (directory 6 c.header.optional_header) h
+same_debug law b o c h = grind (arith, same_value)
 
 same_exceptions : (b : List ℕ) (o : ParseOptions) (c : CoreView) → exceptions_of b (strict o) c ≡ exceptions_of b (permissive o) c
 unfolding exception_at
@@ -79,14 +55,8 @@ same_relocations b o c = refl
 abbrev ResourceLaw : Type 0
 ResourceLaw = (o : ParseOptions) (b : List ℕ) (d : DataDirectory) (sections : List SectionTable) (unit : ℕ) (x : ResourceView) → IsResource (record o { parse_mode = Strict }) b d sections unit (Ok x) → IsResource (record o { parse_mode = Permissive }) b d sections unit (Ok x)
 
-same_resources_in : ResourceLaw → (b : List ℕ) (o : ParseOptions) (sections : List SectionTable) (unit : ℕ) (d : Option DataDirectory) (f : Field ResourceView) → demanded Strict f ≡ Ok tt → IsField (λ d r. IsResource (strict o) b d sections unit r) d f → IsField (λ d r. IsResource (permissive o) b d sections unit r) d f
-same_resources_in law b o sections unit None f h is = is
-same_resources_in law b o sections unit (Some d) None h is = absurd is
-same_resources_in law b o sections unit (Some d) (Some (Ok x)) h is = law o b d sections unit x is
-same_resources_in law b o sections unit (Some d) (Some (Err e)) h is = absurd cc
-
 same_resources : ResourceLaw → (b : List ℕ) (o : ParseOptions) (c : CoreView) (f : Field ResourceView) → demanded Strict f ≡ Ok tt → AreResourcesOf b (strict o) c f → AreResourcesOf b (permissive o) c f
-same_resources law b o c f h is = same_resources_in law b o c.sections (alignment c.header.optional_header) (resource_directory o c.header.optional_header) f h is
+same_resources law b o c f h is = grind arith
 
 same_fields : DebugLaw → (b : List ℕ) (o : ParseOptions) (c : CoreView) (f : Field ResourceView) → demanded Strict (debug_of b (strict o) c) ≡ Ok tt → with_fields b (strict o) c f ≡ with_fields b (permissive o) c f
 unfolding with_fields
@@ -94,12 +64,9 @@ same_fields law b o c f h = rw (same_debug law b o c h, same_exceptions b o c, s
 
 -- ---- the image
 
-four_kept : (b : List ℕ) (o : ParseOptions) (r : Result CoreView Refusal) (c : CoreView) → r ≡ Ok c → (r >>= λ c. first_fields_demanded b o c >>= λ u. Ok c) ≡ Ok c → first_fields_demanded b o c ≡ Ok tt
-four_kept b o r c is h = first_passed (first_fields_demanded b o c) (λ u. Ok c) c (rw is at h)
-
 permissive_before : HeaderLaw → (b : List ℕ) (o : ParseOptions) (c : CoreView) → core_of b (strict o) ≡ Ok c → before_resources b (permissive o) ≡ Ok c
-unfolding before_resources
-permissive_before law b o c h = rw (permissive_core law b o c h) refl
+unfolding before_resources core_of
+permissive_before law b o c h = rw (after_header b o (header_at b Strict) (header_at b Permissive) c (law b) h) refl
 
 after : HeaderLaw → DebugLaw → ResourceLaw → (b : List ℕ) (o : ParseOptions) (c : CoreView) (image : ImageView) (f : Field ResourceView) → core_of b (strict o) ≡ Ok c → first_fields_demanded b (strict o) c ≡ Ok tt → AreResourcesOf b (strict o) c f → Ok image ≡ (demanded Strict f >>= λ u. Ok (with_fields b (strict o) c f)) → IsImage b (permissive o) (Ok image)
 after header debug resource b o c image f is four are given =
@@ -112,7 +79,8 @@ after_core : HeaderLaw → DebugLaw → ResourceLaw → (b : List ℕ) (o : Pars
 unfolding before_resources
 after_core header debug resource b o (Ok c) image h (f, are, given) =
     let core : core_of b (strict o) ≡ Ok c = core_before b (strict o) (core_of b (strict o)) c h in
-    after header debug resource b o c image f core (four_kept b (strict o) (core_of b (strict o)) c core h) are given
+    after header debug resource b o c image f core
+    (first_passed (first_fields_demanded b (strict o) c) (λ u. Ok c) c (rw core at h)) are given
 after_core header debug resource b o (Err e) image h is = absurd cc
 
 -- an image that strict mode returns is the one that permissive mode returns

@@ -1,19 +1,9 @@
-use Rattle.std.proofs.Common.{◌≡◌, ℕ, ◌+◌, ◌%◌, ◌≤◌, Bool, true, false, Result, Ok, Err, ◌&&◌, List, [], ◌∷◌, ◌++◌, length, Option, Some, ap, sym, subst, ◌∙◌, arith}
-use Rattle.std.proofs.lemmas.Bool.Decides.{nat_tests}
-use Rattle.std.proofs.lemmas.List.{length-append, take-append-drop}
-use Rattle.pe_core.specs.Bytes.{AreBytes, splice}
-use Rattle.pe_core.specs.Header.{OptionalHeaderView}
-use Rattle.pe_core.specs.Refusals.{Refusal, WriteFit, outcome}
-use Rattle.pe_core.specs.declared.data_directories.DataDirectory.{DataDirectory}
-use Rattle.pe_records.specs.Certificates.{CertificateView, IsListing}
-use Rattle.pe_records.specs.CertificateWriting.{padding, spell_certificate, written_certificate, written_certificates, written_length}
-use Rattle.pe_records.proofs.CertificatePieces.{in_turn, length-spell, length_written}
-use Rattle.pe_image.specs.Image.{ImageView}
-use Rattle.pe_image.specs.Overlay.{Piece, all_fit, overlay}
-use Rattle.pe_image.specs.Pieces.{certificate_pieces, certificates_end, in_a_row}
-use Rattle.pe_image.specs.Writing.{certificate_directory, certificates_by, certificates_over, certificates_written}
-use Rattle.pe_image.specs.WritingSteps.{put_in_turn}
-use Rattle.pe_core.proofs.Splices.{length-splice}
+use Rattle.std.proofs.Common.{◌≡◌, ℕ, ◌+◌, ◌%◌, ◌≤◌, Bool, true, Result, Ok, Err, ◌&&◌, List, [], ◌∷◌, length, Some, ap, sym, ◌∙◌, arith}
+use Rattle.pe_image.proofs.Cited.{nat_tests, length-append, take-append-drop, AreBytes, splice, OptionalHeaderView, Refusal}
+use Rattle.pe_image.proofs.Cited.{WriteFit, outcome, DataDirectory, CertificateView, IsListing, written_certificate}
+use Rattle.pe_image.proofs.Cited.{written_certificates, written_length, in_turn, length-spell, length_written, ImageView, Piece}
+use Rattle.pe_image.proofs.Cited.{all_fit, overlay, certificate_pieces, certificates_end, in_a_row, certificate_directory}
+use Rattle.pe_image.proofs.Cited.{certificates_over, certificates_written, put_in_turn, length-splice}
 use Rattle.pe_image.proofs.Overlays.{overlay_in_turn, put_append}
 use Rattle.pe_image.proofs.Rows.{all_fit_append, and_left, and_right, fits_if}
 use Rattle.pe_image.proofs.WrittenCertificates.{put_at_once}
@@ -27,13 +17,8 @@ row p cs = in_a_row certificate_pieces written_length p cs
 both_fit : (n p : ℕ) (c : CertificateView) (cs : List CertificateView) → all_fit n (row p (c ∷ cs)) ≡ true → (all_fit n (certificate_pieces p c) && all_fit n (row (p + written_length c) cs)) ≡ true
 both_fit n p c cs h = sym (all_fit_append n (certificate_pieces p c) (row (p + written_length c) cs)) ∙ h
 
-last_fits : (n p : ℕ) (c : CertificateView) → all_fit n (certificate_pieces p c) ≡ true → p + 8 + length c.body + length (padding c) ≤ n
-last_fits n p c h = grind (arith, nat_tests)
-
 first_fits : (n p : ℕ) (c : CertificateView) (cs : List CertificateView) → all_fit n (row p (c ∷ cs)) ≡ true → p + length (written_certificate c) ≤ n
-first_fits n p c cs h =
-    let end : p + 8 + length c.body + length (padding c) ≤ n = last_fits n p c (and_left _ _ (both_fit n p c cs h)) in
-    omega (arith, end, length-spell c, length-append (spell_certificate c ++ c.body) (padding c), length-append (spell_certificate c) c.body)
+first_fits n p c cs h = grind (arith, and_left, both_fit, length-spell, length-append, nat_tests)
 
 others_fit : (n p : ℕ) (c : CertificateView) (cs : List CertificateView) → all_fit n (row p (c ∷ cs)) ≡ true → all_fit n (row (p + written_length c) cs) ≡ true
 others_fit n p c cs h = and_right _ _ (both_fit n p c cs h)
@@ -66,8 +51,7 @@ bytes_in none (Ok x) = x.1
 bytes_in none (Err e) = none
 
 left_by : (t : Bool) (m n : ℕ) (old new : List ℕ) → outcome {Y = ℕ × List ℕ} ((t, WriteFit) ∷ []) (m, old) ≡ Ok (n, new) → new ≡ old
-left_by true m n old new h = sym (ap (bytes_in []) h)
-left_by false m n old new h = absurd cc
+left_by t m n old new h = grind arith
 
 -- what a successful write of certificates leaves
 left_after : (old new : List ℕ) (d : DataDirectory) (cs : List CertificateView) (n : ℕ) → d.virtual_address ≤ length old → certificates_over (Some d) cs old ≡ Ok (n, new) →
@@ -80,14 +64,11 @@ left_after old new d cs n h e =
     (row_inside (length old) p cs h fit, same ∙ (sym (overlay_in_turn (row p cs) old fit) ∙ row_at_once old p cs h fit))
 
 by_directory : (x : ImageView) (o : OptionalHeaderView) (d : DataDirectory) (old : List ℕ) → x.header.optional_header ≡ Some o → certificate_directory o ≡ Some d → certificates_written x old ≡ certificates_over (Some d) x.certificates old
-by_directory x o d old e f =
-    ap (λ (h : Option OptionalHeaderView). certificates_by h x.certificates old) e ∙ ap (λ (k : Option DataDirectory). certificates_over k x.certificates old) f
+by_directory x o d old e f = grind arith
 
 listed_again : ((b buffer : List ℕ) (address size : ℕ) (cs : List CertificateView) → AreBytes b → address % 8 ≡ 0 → IsListing b address size cs → address + size ≤ length buffer → address + length (written_certificates cs) ≤ length buffer → IsListing (splice buffer address (written_certificates cs)) address size cs) →
     (b old new : List ℕ) (x : ImageView) (o : OptionalHeaderView) (d : DataDirectory) (n : ℕ) → x.header.optional_header ≡ Some o → certificate_directory o ≡ Some d → d.virtual_address % 8 ≡ 0 → AreBytes b → IsListing b d.virtual_address d.size x.certificates → d.virtual_address + d.size ≤ length old → certificates_written x old ≡ Ok (n, new) → IsListing new d.virtual_address d.size x.certificates
-listed_again law b old new x o d n e f m small listing room w =
-    let left = left_after old new d x.certificates n (omega arith) (sym (by_directory x o d old e f) ∙ w) in
-    subst (λ (r : List ℕ). IsListing r d.virtual_address d.size x.certificates) (sym left.1) (law b old d.virtual_address d.size x.certificates small m listing room left.0)
+listed_again law b old new x o d n e f m small listing room w = grind (arith, left_after, by_directory)
 
 pub returns : goal.returns
 returns c = λ b old new x d n has. listed_again c.written_listings_are_listed_again.ensures.again b old new x has.0 d n has.1 has.2

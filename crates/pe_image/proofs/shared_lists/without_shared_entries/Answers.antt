@@ -1,8 +1,6 @@
 use Rattle.std.proofs.Common.{rules, refl, ◌∷◌, []}
-use Rattle.std.proofs.lemmas.List.{with_items_is, places}
+use Rattle.pe_image.proofs.Cited.{with_items_is, places, entry_size, offset_in}
 use Rattle.std.proofs.lemmas.Slice.{pushed}
-use Rattle.pe_core.specs.Imports.{entry_size}
-use Rattle.pe_core.specs.SectionMap.{offset_in}
 use Rattle.pe_image.proofs.SharedLists.{reduced-more, stands_there}
 use Rattle.pe_image.proofs.shared_lists.without_shared_entries.Goals as goal
 

@@ -1,6 +1,5 @@
 use Rattle.std.proofs.Common.{map, take}
-use Rattle.pe_core.specs.Imports.{entry_size, import_record_view}
-use Rattle.pe_core.specs.SectionMap.{offset_in}
+use Rattle.pe_image.proofs.Cited.{entry_size, import_record_view, offset_in}
 use Rattle.pe_image.proofs.SharedLists.{Reduced}
 use Rattle.pe_image.proofs.shared_lists.without_shared_entries.Given as goal
 

@@ -1,7 +1,5 @@
 use Rattle.std.proofs.Common.{◌≡◌, true}
-use Rattle.std.specs.List.{list_all}
-use Rattle.pe_core.specs.Rows.{each}
-use Rattle.pe_rewrite.specs.Places.{entry_apart}
+use Rattle.pe_rewrite.proofs.Cited.{list_all, each, entry_apart}
 use Rattle.pe_rewrite.proofs.debug.require_debug_apart.Given as goal
 
 -- the data of the entries so far are apart

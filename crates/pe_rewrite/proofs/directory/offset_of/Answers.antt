@@ -1,6 +1,5 @@
-use Rattle.std.proofs.Common.{Some, None, sym}
-use Rattle.pe_core.specs.Header.{header_view}
-use Rattle.pe_rewrite.specs.Places.{section_header}
+use Rattle.std.proofs.Common.{Some, sym, rules, arith}
+use Rattle.pe_rewrite.proofs.Cited.{header_view, section_header}
 use Rattle.pe_rewrite.proofs.Mapped.{map_found, map_next, one_section}
 use Rattle.pe_rewrite.proofs.directory.offset_of.Goals as goal
 
@@ -12,8 +11,4 @@ returns-in-Some c =
     (one_section c.default-options.result c.args.alignment c.args.rva c.section_header-section.result (f i) (Some c.in-Some.offset) c.default-options.ensures c.section_header-section.ensures c.in-Some.ensures))
 
 pub loop-index-preserved : goal.loop-index-preserved
-loop-index-preserved c =
-    let f = section_header c.args.bytes.now (header_view c.args.header.now) in
-    let i = c.loop-index.index in
-    map_next c.args.alignment c.args.rva i f c.loop-index.invariant
-    (one_section c.default-options.result c.args.alignment c.args.rva c.section_header-section.result (f i) None c.default-options.ensures c.section_header-section.ensures c.in-None.ensures)
+loop-index-preserved c = search (rules, arith, map_next, one_section)

@@ -1,8 +1,5 @@
 use Rattle.std.proofs.Common.{◌≡◌, true, None}
-use Rattle.pe_core.specs.Header.{header_view}
-use Rattle.pe_core.specs.Rows.{each}
-use Rattle.pe_core.specs.SectionMap.{offset_of}
-use Rattle.pe_rewrite.specs.Places.{section_header}
+use Rattle.pe_rewrite.proofs.Cited.{header_view, each, offset_of, section_header}
 use Rattle.pe_rewrite.proofs.directory.offset_of.Given as goal
 
 -- no section so far covers the RVA

@@ -1,5 +1,4 @@
-use Rattle.pe_core.specs.Header.{header_view}
-use Rattle.pe_edit.specs.Views.{leaf_views}
+use Rattle.pe_rewrite.proofs.Cited.{header_view, leaf_views}
 use Rattle.pe_rewrite.proofs.Calls.{length_returned}
 use Rattle.pe_rewrite.proofs.edit.len_in_place.Goals as goal
 

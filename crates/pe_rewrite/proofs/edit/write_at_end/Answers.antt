@@ -1,7 +1,5 @@
-use Rattle.std.proofs.Common.{refl, arith}
-use Rattle.std.proofs.lemmas.Result.{err_from_is_err_and}
-use Rattle.pe_core.specs.Header.{header_view}
-use Rattle.pe_edit.specs.Views.{leaf_views}
+use Rattle.std.proofs.Common.{rules, refl, arith}
+use Rattle.pe_rewrite.proofs.Cited.{err_from_is_err_and, header_view, leaf_views}
 use Rattle.pe_rewrite.proofs.Calls.{made_moved, more_small, moved_file_returned, moved_room_short, moves, size_moved}
 use Rattle.pe_rewrite.proofs.edit.write_at_end.Goals as goal
 
@@ -13,17 +11,14 @@ returns-in_err-require_room c =
     let p = err_from_is_err_and c.from_residual-in_err-require_room.result c.from_residual-in_err-require_room.ensures.1 in
     rw (p.1, p.2) (moved_room_short c.args.bytes.now (header_view c.args.header.now) (leaf_views c.args.leaves.now) c.in_ok-room.room c.length_with-length.result c.args.out.now _ c.in_ok-room.ensures c.length_with-length.ensures c.in_err-require_room.ensures, refl)
 
-pub set_moved-requires-clause-more : goal.set_moved-requires-clause-more
-set_moved-requires-clause-more c = omega (arith, more_small c.args.bytes.now (header_view c.args.header.now) (leaf_views c.args.leaves.now) c.in_ok-room.room c.in_ok-room.ensures)
-
-pub set_moved-requires-clause-moves : goal.set_moved-requires-clause-moves
-set_moved-requires-clause-moves c = moves c.args.bytes.now (header_view c.args.header.now) (leaf_views c.args.leaves.now) c.in_ok-room.room c.in_ok-room.ensures
-
-pub set_moved-requires-clause-made : goal.set_moved-requires-clause-made
-set_moved-requires-clause-made c = made_moved c.args.bytes.now (header_view c.args.header.now) (leaf_views c.args.leaves.now) c.in_ok-room.room c.in_ok-room.ensures
-
-pub set_moved-requires-clause-length : goal.set_moved-requires-clause-length
-set_moved-requires-clause-length c = size_moved c.args.bytes.now (header_view c.args.header.now) (leaf_views c.args.leaves.now) c.in_ok-room.room c.in_ok-room.ensures
+pub set_moved-requires : goal.set_moved-requires
+set_moved-requires c = record {
+  moves = moves c.args.bytes.now (header_view c.args.header.now) (leaf_views c.args.leaves.now) c.in_ok-room.room c.in_ok-room.ensures;
+  more = omega (arith, more_small c.args.bytes.now (header_view c.args.header.now) (leaf_views c.args.leaves.now) c.in_ok-room.room c.in_ok-room.ensures);
+  made = made_moved c.args.bytes.now (header_view c.args.header.now) (leaf_views c.args.leaves.now) c.in_ok-room.room c.in_ok-room.ensures;
+  length = size_moved c.args.bytes.now (header_view c.args.header.now) (leaf_views c.args.leaves.now) c.in_ok-room.room c.in_ok-room.ensures;
+  room = search rules;
+}
 
 pub returns : goal.returns
 returns c =

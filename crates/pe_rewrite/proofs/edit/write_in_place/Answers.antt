@@ -1,7 +1,5 @@
-use Rattle.std.proofs.Common.{refl}
-use Rattle.std.proofs.lemmas.Result.{err_from_is_err_and}
-use Rattle.pe_core.specs.Header.{header_view}
-use Rattle.pe_edit.specs.Views.{leaf_views}
+use Rattle.std.proofs.Common.{rules, refl}
+use Rattle.pe_rewrite.proofs.Cited.{err_from_is_err_and, header_view, leaf_views}
 use Rattle.pe_rewrite.proofs.Calls.{file_returned, lies, made, room_short, size}
 use Rattle.pe_rewrite.proofs.edit.write_in_place.Goals as goal
 
@@ -10,14 +8,13 @@ returns-in_err-require_room c =
     let p = err_from_is_err_and c.from_residual-in_err-require_room.result c.from_residual-in_err-require_room.ensures.1 in
     rw (p.1, p.2) (room_short c.args.bytes.now (header_view c.args.header.now) (leaf_views c.args.leaves.now) c.in_ok-place.place c.args.out.now _ c.in_ok-place.ensures c.in_err-require_room.ensures, refl)
 
-pub set_edited-requires-clause-lies : goal.set_edited-requires-clause-lies
-set_edited-requires-clause-lies c = lies c.args.bytes.now (header_view c.args.header.now) (leaf_views c.args.leaves.now) c.in_ok-place.place c.in_ok-place.ensures
-
-pub set_edited-requires-clause-made : goal.set_edited-requires-clause-made
-set_edited-requires-clause-made c = made c.args.bytes.now (header_view c.args.header.now) (leaf_views c.args.leaves.now) c.in_ok-place.place c.in_ok-place.ensures
-
-pub set_edited-requires-clause-length : goal.set_edited-requires-clause-length
-set_edited-requires-clause-length c = size c.args.bytes.now (header_view c.args.header.now) (leaf_views c.args.leaves.now) c.in_ok-place.place c.in_ok-place.ensures
+pub set_edited-requires : goal.set_edited-requires
+set_edited-requires c = record {
+  lies = lies c.args.bytes.now (header_view c.args.header.now) (leaf_views c.args.leaves.now) c.in_ok-place.place c.in_ok-place.ensures;
+  made = made c.args.bytes.now (header_view c.args.header.now) (leaf_views c.args.leaves.now) c.in_ok-place.place c.in_ok-place.ensures;
+  length = size c.args.bytes.now (header_view c.args.header.now) (leaf_views c.args.leaves.now) c.in_ok-place.place c.in_ok-place.ensures;
+  room = search rules;
+}
 
 pub returns : goal.returns
 returns c =

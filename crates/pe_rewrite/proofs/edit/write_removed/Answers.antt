@@ -1,6 +1,5 @@
 use Rattle.std.proofs.Common.{refl}
-use Rattle.std.proofs.lemmas.Result.{err_from_is_err_and}
-use Rattle.pe_core.specs.Header.{header_view}
+use Rattle.pe_rewrite.proofs.Cited.{err_from_is_err_and, header_view}
 use Rattle.pe_rewrite.proofs.Calls.{found, gone_most, gone_returned, gone_short, lies_gone, stayed_returned, stayed_short}
 use Rattle.pe_rewrite.proofs.edit.write_removed.Goals as goal
 

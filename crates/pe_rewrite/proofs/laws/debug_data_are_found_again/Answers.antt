@@ -1,29 +1,14 @@
-use Rattle.std.proofs.Common.{◌≡◌, ℕ, ◌+◌, ◌*◌, ◌/◌, ◌%◌, ◌^◌, ◌<◌, ◌≤◌, ◌==◌, ◌&&◌, ◌||◌, ◌⊎◌, inl, inr, true, false, List, length, get_or, slice_range, Some, Ok, refl, ap, sym, ◌∙◌, subst, ⊎_elim, arith}
-use Rattle.std.specs.Prelude.{nat_le}
-use Rattle.std.proofs.lemmas.Bool.Decides.{nat_tests}
-use Rattle.std.proofs.lemmas.List.{ext_get_or, places}
-use Rattle.pe_core.specs.Bytes.{AreBytes, le, range}
-use Rattle.pe_core.specs.Header.{HeaderView, OptionalHeaderView}
-use Rattle.pe_core.specs.SectionMap.{section_map}
-use Rattle.pe_core.specs.Sections.{raw_end}
-use Rattle.pe_core.specs.declared.options.ParseOptions.{ParseOptions}
-use Rattle.pe_core.specs.declared.section_table.SectionTable.{SectionTable}
-use Rattle.pe_core.proofs.NumberBytes.{le-same, le_small}
-use Rattle.pe_edit.specs.Written.{Leaf}
-use Rattle.pe_records.specs.DebugDirectory.{debug_entry_at}
-use Rattle.pe_sign.proofs.Digests.{range_below, range_past}
-use Rattle.pe_rewrite.specs.Edited.{Lies, in_place}
-use Rattle.pe_rewrite.specs.Places.{debug_apart, debug_data_apart, directory_at, entries_apart, entry_apart, headers_end, place_of, section_headers}
-use Rattle.pe_rewrite.specs.WrittenImages.{entries_at}
-use Rattle.pe_rewrite.specs.declared.debug.DebugEntries.{DebugEntries}
-use Rattle.pe_rewrite.specs.declared.place.Place.{Place}
+use Rattle.std.proofs.Common.{◌≡◌, ℕ, ◌+◌, ◌*◌, ◌/◌, ◌%◌, ◌^◌, ◌<◌, ◌≤◌, ◌||◌, ◌⊎◌, inl, inr, true, List, length, get_or, slice_range, Some, Ok, refl, ap, sym, ◌∙◌, ⊎_elim, arith}
+use Rattle.pe_rewrite.proofs.Cited.{nat_le, nat_tests, ext_get_or, places, AreBytes, le, range, HeaderView, OptionalHeaderView}
+use Rattle.pe_rewrite.proofs.Cited.{section_map, raw_end, ParseOptions, SectionTable, le-same, le_small, Leaf, debug_entry_at}
+use Rattle.pe_rewrite.proofs.Cited.{range_below, range_past, Lies, in_place, debug_apart, debug_data_apart, directory_at}
+use Rattle.pe_rewrite.proofs.Cited.{entries_apart, entry_apart, headers_end, place_of, section_headers, entries_at, DebugEntries}
+use Rattle.pe_rewrite.proofs.Cited.{Place, both}
 use Rattle.pe_rewrite.proofs.DebugMoved.{data_moved, entries_are, entry_moved, entries_there, small_reduced}
 use Rattle.pe_rewrite.proofs.Placed.{DebugApart, debug_placed, place_lies}
 use Rattle.pe_rewrite.proofs.Pointers.{lie_by, or_of}
-use Rattle.pe_rewrite.proofs.Results.{first_of, second_of}
-use Rattle.pe_rewrite.proofs.RoomImages.{four_false}
 use Rattle.pe_rewrite.proofs.WrittenImages.{IsFile, bytes_stay_placed, is_file, length_stays_placed}
-use Rattle.pe_rewrite.proofs.WrittenSections.{all_by}
+use Rattle.pe_rewrite.proofs.WrittenSections.{all_by, four_false}
 use Rattle.pe_rewrite.proofs.laws.debug_data_are_found_again.Goals as goal
 
 -- The debug entries of a file that an edit writes with its resources in place, and their data.
@@ -56,23 +41,13 @@ same_ranges f b p n size same =
 -- ---- where the entries lie
 
 entries_beside : (b : List ℕ) (h : HeaderView) (s : SectionTable) (d : DebugEntries) → entries_apart b h s d ≡ true → 0 < d.count → Beside h s d.offset (d.offset + 28 * d.count)
-entries_beside b h s d e some =
-    let none : (d.count == 0) ≡ false = grind (arith, nat_tests, some) in
-    let end : ℕ = d.offset + 28 * d.count in
-    let both = lie_by (d.count == 0) (nat_le (headers_end h) d.offset) (nat_le end s.pointer_to_raw_data || (nat_le (raw_end s) d.offset && nat_le end (length b))) e none in
-    let start : headers_end h ≤ d.offset = grind (arith, nat_tests, both.0) in (
-      start,
-      ⊎_elim
-          (λ (before : nat_le end s.pointer_to_raw_data ≡ true). let less : end ≤ s.pointer_to_raw_data = grind (arith, nat_tests, before) in inl less)
-          (λ (after : (nat_le (raw_end s) d.offset && nat_le end (length b)) ≡ true). let more : nat_le (raw_end s) d.offset ≡ true = first_of (nat_le (raw_end s) d.offset) _ after in let past : raw_end s ≤ d.offset = grind (arith, nat_tests, more) in inr past)
-          (or_of (nat_le end s.pointer_to_raw_data) (nat_le (raw_end s) d.offset && nat_le end (length b)) both.1),
-    )
+entries_beside b h s d e some = grind (arith, nat_tests, lie_by, both, or_of)
 
 data_beside : (b : List ℕ) (h : HeaderView) (s : SectionTable) (e : ℕ) → debug_data_apart b s e ≡ true → headers_end h ≤ le b (e + 24) 4 → Beside h s (le b (e + 24) 4) (le b (e + 24) 4 + le b (e + 16) 4)
 data_beside b h s e apart from =
     let p : ℕ = le b (e + 24) 4 in
     let end : ℕ = p + le b (e + 16) 4 in
-    let either : (nat_le end s.pointer_to_raw_data || nat_le (raw_end s) p) ≡ true = first_of (nat_le end s.pointer_to_raw_data || nat_le (raw_end s) p) _ apart in (
+    let either : (nat_le end s.pointer_to_raw_data || nat_le (raw_end s) p) ≡ true = (both (nat_le end s.pointer_to_raw_data || nat_le (raw_end s) p) _ apart).0 in (
       from,
       ⊎_elim
           (λ (before : nat_le end s.pointer_to_raw_data ≡ true). let less : end ≤ s.pointer_to_raw_data = grind (arith, nat_tests, before) in inl less)
@@ -90,7 +65,7 @@ field b h xs p f d k q n y beside lt fits =
 entry_same : (b : List ℕ) (h : HeaderView) (xs : List Leaf) (p : Place) (f : List ℕ) (d : DebugEntries) (k : ℕ) → IsFile b h xs p f → debug_apart b h p.section d ≡ true → k < d.count → debug_entry_at 0 f (d.offset + 28 * k) ≡ debug_entry_at 0 b (d.offset + 28 * k)
 unfolding debug_entry_at
 entry_same b h xs p f d k y apart lt =
-    let beside = entries_beside b h p.section d (first_of (entries_apart b h p.section d) _ apart) (omega (arith, lt)) in
+    let beside = entries_beside b h p.section d (both (entries_apart b h p.section d) _ apart).0 (omega (arith, lt)) in
     let first : le f (d.offset + 28 * k) 4 ≡ le b (d.offset + 28 * k) 4 = ap (λ (q : ℕ). le f q 4) (omega arith) ∙ field b h xs p f d k 0 4 y beside lt (omega arith) ∙ ap (λ (q : ℕ). le b q 4) (omega arith) in
     rw (
       first,
@@ -107,7 +82,7 @@ data_same : (b : List ℕ) (h : HeaderView) (xs : List Leaf) (p : Place) (f : Li
     range f (le b (d.offset + 28 * k + 24) 4) (le b (d.offset + 28 * k + 16) 4) ≡ range b (le b (d.offset + 28 * k + 24) 4) (le b (d.offset + 28 * k + 16) 4)
 data_same b h xs p f d k y apart lt from =
     let at : ℕ = d.offset + 28 * k in
-    let one : entry_apart b p.section d k ≡ true = all_by (entry_apart b p.section d k) (entry_apart b p.section d) d.count k lt refl (second_of (entries_apart b h p.section d) _ apart) in
+    let one : entry_apart b p.section d k ≡ true = all_by (entry_apart b p.section d k) (entry_apart b p.section d) d.count k lt refl (both (entries_apart b h p.section d) _ apart).1 in
     let beside = data_beside b h p.section at one from in
     same_ranges f b (le b (at + 24) 4) (le b (at + 16) 4) (length_stays_placed b h xs p f y) (λ j start end. beside_stays b h xs p f (le b (at + 24) 4) (le b (at + 24) 4 + le b (at + 16) 4) j y beside start end)
 
@@ -115,8 +90,7 @@ data_same b h xs p f d k y apart lt from =
 
 apart_there : (o : ParseOptions) (b : List ℕ) (h : HeaderView) (p : Place) (x : DebugApart b h p) (w : OptionalHeaderView) (q : ℕ) → h.optional_header ≡ Some w → o.resolve_rva ≡ true →
     section_map o (section_headers b h) w.windows_fields.file_alignment (directory_at w 6).virtual_address ≡ Some q → debug_apart b h p.section (entries_at q (directory_at w 6)) ≡ true
-apart_there o b h p x w q some resolves there =
-    subst (λ (d : DebugEntries). debug_apart b h p.section d ≡ true) (entries_there o b h x.target x.of w q some resolves there) x.apart
+apart_there o b h p x w q some resolves there = grind (arith, entries_there)
 
 entry_in_place : (o : ParseOptions) (b : List ℕ) (h : HeaderView) (xs : List Leaf) (p : Place) (f : List ℕ) (w : OptionalHeaderView) (q k : ℕ) → place_of b h xs ≡ Ok p → in_place b h xs ≡ Ok f → h.optional_header ≡ Some w → o.resolve_rva ≡ true →
     section_map o (section_headers b h) w.windows_fields.file_alignment (directory_at w 6).virtual_address ≡ Some q → k < (directory_at w 6).size / 28 → debug_entry_at 0 f (q + 28 * k) ≡ debug_entry_at 0 b (q + 28 * k)
@@ -135,17 +109,11 @@ data_in_place o b h xs p f w q k small e i some resolves there lt from =
     let stay = data_same b h xs p f (entries_at q (directory_at w 6)) k (is_file b h xs p f e i) (apart_there o b h p (debug_placed b h xs p e) w q some resolves there) lt start in
     ap (λ (j : ℕ). range f j size) same ∙ stay ∙ ap (λ (j : ℕ). range b j size) (sym same)
 
-pub returns-clause-entries : goal.returns-clause-entries
-returns-clause-entries c = λ b h xs m f k is. entry_moved b h xs m f k is.bytes is.room is.file
-
-pub returns-clause-data : goal.returns-clause-data
-returns-clause-data c = λ b h xs m f e is. data_moved b h xs m f e.pointer_to_raw_data e.size_of_data is.bytes is.room is.file
-
-pub returns-clause-entries_in_place : goal.returns-clause-entries_in_place
-returns-clause-entries_in_place c = λ o b h xs p f w q k is some resolves there lt. entry_in_place o b h xs p f w q k is.place is.file some resolves there lt
-
-pub returns-clause-data_in_place : goal.returns-clause-data_in_place
-returns-clause-data_in_place c = λ o b h xs p f w q k is some resolves there lt from. data_in_place o b h xs p f w q k is.bytes is.place is.file some resolves there lt from
-
-pub returns-clause-directory : goal.returns-clause-directory
-returns-clause-directory c = λ o b h xs m w q e some. entries_are o b h xs m w q e some
+pub returns : goal.returns
+returns c = record {
+  entries = λ b h xs m f k is. entry_moved b h xs m f k is.bytes is.room is.file;
+  «data» = λ b h xs m f e is. data_moved b h xs m f e.pointer_to_raw_data e.size_of_data is.bytes is.room is.file;
+  directory = λ o b h xs m w q e some. entries_are o b h xs m w q e some;
+  entries_in_place = λ o b h xs p f w q k is some resolves there lt. entry_in_place o b h xs p f w q k is.place is.file some resolves there lt;
+  data_in_place = λ o b h xs p f w q k is some resolves there lt from. data_in_place o b h xs p f w q k is.bytes is.place is.file some resolves there lt from;
+}

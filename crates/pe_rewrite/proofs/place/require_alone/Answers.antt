@@ -1,7 +1,5 @@
 use Rattle.std.proofs.Common.{Bool, Ok, Err, ap, sym, ◌∙◌}
-use Rattle.std.specs.Prelude.{if◌then◌else◌}
-use Rattle.pe_core.specs.Header.{optional_header_view}
-use Rattle.pe_rewrite.specs.RewriteRefusals.{SharedSection}
+use Rattle.pe_rewrite.proofs.Cited.{if◌then◌else◌, optional_header_view, SharedSection}
 use Rattle.pe_rewrite.proofs.Loops.{alone_fails}
 use Rattle.pe_rewrite.proofs.place.require_alone.Goals as goal
 

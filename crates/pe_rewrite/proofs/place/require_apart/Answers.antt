@@ -1,7 +1,5 @@
 use Rattle.std.proofs.Common.{Bool, Ok, Err, ap, sym, ◌∙◌}
-use Rattle.std.specs.Prelude.{if◌then◌else◌}
-use Rattle.pe_core.specs.Header.{header_view}
-use Rattle.pe_rewrite.specs.RewriteRefusals.{Overlap}
+use Rattle.pe_rewrite.proofs.Cited.{if◌then◌else◌, header_view, Overlap}
 use Rattle.pe_rewrite.proofs.Loops.{apart_fails}
 use Rattle.pe_rewrite.proofs.place.require_apart.Goals as goal
 

@@ -1,8 +1,5 @@
 use Rattle.std.proofs.Common.{◌≡◌, true}
-use Rattle.std.specs.List.{list_all}
-use Rattle.pe_core.specs.Header.{header_view}
-use Rattle.pe_core.specs.Rows.{each}
-use Rattle.pe_rewrite.specs.Places.{is_clear}
+use Rattle.pe_rewrite.proofs.Cited.{list_all, header_view, each, is_clear}
 use Rattle.pe_rewrite.proofs.place.require_clear.Given as goal
 
 -- the sections so far are apart in memory

@@ -1,6 +1,5 @@
 use Rattle.std.proofs.Common.{◌≡◌, ◌<◌, ◌==◌, ℕ, false}
-use Rattle.pe_core.specs.Header.{header_view}
-use Rattle.pe_rewrite.specs.Places.{section_header}
+use Rattle.pe_rewrite.proofs.Cited.{header_view, section_header}
 use Rattle.pe_rewrite.proofs.place.section_index.Given as goal
 
 -- no section so far starts there

@@ -1,7 +1,5 @@
 use Rattle.std.proofs.Common.{ℕ, ◌+◌, length, sym, ap, ◌∙◌, subst}
-use Rattle.pe_core.specs.Header.{header_view}
-use Rattle.pe_edit.specs.Views.{leaf_views}
-use Rattle.pe_rewrite.specs.Edited.{Inside, roomy_file, with_pointers}
+use Rattle.pe_rewrite.proofs.Cited.{header_view, leaf_views, Inside, roomy_file, with_pointers}
 use Rattle.pe_rewrite.proofs.Pointers.{length_can, lies_with}
 use Rattle.pe_rewrite.proofs.RoomWrites.{room_inside, roomy_length}
 use Rattle.pe_rewrite.proofs.Writes.{over_set}

@@ -1,10 +1,5 @@
 use Rattle.std.proofs.Common.{ℕ, ◌≡◌, ◌+◌, length, take, sym, ap, ◌∙◌, subst}
-use Rattle.std.proofs.lemmas.List.{length-take-le}
-use Rattle.pe_core.specs.Bytes.{bytes_of, splice}
-use Rattle.pe_core.specs.Header.{header_view}
-use Rattle.pe_edit.specs.Views.{leaf_views}
-use Rattle.pe_edit.specs.Written.{section}
-use Rattle.pe_rewrite.specs.Edited.{Inside, sum_of}
+use Rattle.pe_rewrite.proofs.Cited.{length-take-le, bytes_of, splice, header_view, leaf_views, section, Inside, sum_of}
 use Rattle.pe_rewrite.proofs.Writes.{edited_set, resources_set, whole_front}
 use Rattle.pe_rewrite.proofs.put.set_over.Goals as goal
 

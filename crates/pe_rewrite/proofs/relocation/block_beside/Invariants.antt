@@ -1,8 +1,5 @@
 use Rattle.std.proofs.Common.{◌≡◌}
-use Rattle.std.specs.List.{list_all}
-use Rattle.pe_directories.specs.BaseRelocations.{block_view, page_of}
-use Rattle.pe_directories.proofs.WordsLeft.{items_of_block, relocations_of}
-use Rattle.pe_rewrite.specs.Relocations.{is_beside}
+use Rattle.pe_rewrite.proofs.Cited.{list_all, block_view, page_of, items_of_block, relocations_of, is_beside}
 use Rattle.pe_rewrite.proofs.relocation.block_beside.Given as goal
 
 -- the relocations so far are beside

@@ -1,7 +1,5 @@
 use Rattle.std.proofs.Common.{◌≡◌}
-use Rattle.std.specs.List.{list_all}
-use Rattle.pe_directories.proofs.WordsLeft.{blocks_of, items_of_table}
-use Rattle.pe_rewrite.specs.Relocations.{item_beside}
+use Rattle.pe_rewrite.proofs.Cited.{list_all, blocks_of, items_of_table, item_beside}
 use Rattle.pe_rewrite.proofs.relocation.table_beside.Given as goal
 
 -- the blocks so far are beside

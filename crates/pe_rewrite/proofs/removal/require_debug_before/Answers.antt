@@ -1,8 +1,5 @@
 use Rattle.std.proofs.Common.{Bool, Ok, Err, ap, sym, ◌∙◌}
-use Rattle.std.specs.Prelude.{if◌then◌else◌}
-use Rattle.pe_sign.proofs.SectionRows.{one_fails}
-use Rattle.pe_rewrite.specs.Removals.{data_before}
-use Rattle.pe_rewrite.specs.RewriteRefusals.{DebugData}
+use Rattle.pe_rewrite.proofs.Cited.{if◌then◌else◌, one_fails, data_before, DebugData}
 use Rattle.pe_rewrite.proofs.removal.require_debug_before.Goals as goal
 
 pub returns-then-not-data_before : goal.returns-then-not-data_before

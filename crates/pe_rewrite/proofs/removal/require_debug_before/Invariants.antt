@@ -1,7 +1,5 @@
 use Rattle.std.proofs.Common.{◌≡◌, true}
-use Rattle.std.specs.List.{list_all}
-use Rattle.pe_core.specs.Rows.{each}
-use Rattle.pe_rewrite.specs.Removals.{data_before}
+use Rattle.pe_rewrite.proofs.Cited.{list_all, each, data_before}
 use Rattle.pe_rewrite.proofs.removal.require_debug_before.Given as goal
 
 -- the data of the entries so far are before the section's

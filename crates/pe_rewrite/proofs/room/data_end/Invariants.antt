@@ -1,9 +1,5 @@
 use Rattle.std.proofs.Common.{◌≡◌}
-use Rattle.std.specs.List.{fold}
-use Rattle.pe_core.specs.Header.{header_view}
-use Rattle.pe_core.specs.Rows.{each}
-use Rattle.pe_rewrite.specs.Places.{section_header}
-use Rattle.pe_rewrite.specs.Rooms.{later_end}
+use Rattle.pe_rewrite.proofs.Cited.{fold, header_view, each, section_header, later_end}
 use Rattle.pe_rewrite.proofs.room.data_end.Given as goal
 
 -- the end of the first sections

@@ -1,7 +1,5 @@
 use Rattle.std.proofs.Common.{Bool, Ok, Err, ap, sym, ◌∙◌}
-use Rattle.std.specs.Prelude.{if◌then◌else◌}
-use Rattle.pe_core.specs.Header.{header_view}
-use Rattle.pe_rewrite.specs.RewriteRefusals.{DebugData}
+use Rattle.pe_rewrite.proofs.Cited.{if◌then◌else◌, header_view, DebugData}
 use Rattle.pe_rewrite.proofs.Loops.{debug_fails}
 use Rattle.pe_rewrite.proofs.room.require_debug.Goals as goal
 

@@ -1,7 +1,5 @@
 use Rattle.std.proofs.Common.{◌≡◌, true}
-use Rattle.std.specs.List.{list_all}
-use Rattle.pe_core.specs.Rows.{each}
-use Rattle.pe_rewrite.specs.Rooms.{entry_moves}
+use Rattle.pe_rewrite.proofs.Cited.{list_all, each, entry_moves}
 use Rattle.pe_rewrite.proofs.room.require_debug.Given as goal
 
 -- the data of the entries so far stay or move

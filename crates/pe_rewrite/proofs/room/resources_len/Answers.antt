@@ -1,6 +1,5 @@
 use Rattle.std.proofs.Common.{ap}
-use Rattle.pe_edit.specs.Views.{leaf_views}
-use Rattle.pe_rewrite.specs.RewriteRefusals.{of_leaves}
+use Rattle.pe_rewrite.proofs.Cited.{leaf_views, of_leaves}
 use Rattle.pe_rewrite.proofs.Placed.{small_length}
 use Rattle.pe_rewrite.proofs.room.resources_len.Goals as goal
 

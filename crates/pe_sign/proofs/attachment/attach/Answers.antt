@@ -1,8 +1,5 @@
-use Rattle.std.proofs.Common.{◌∙◌, sym, refl, ap, ℕ, List, ◌++◌, drop}
-use Rattle.std.specs.Prelude.{Ok}
-use Rattle.std.proofs.lemmas.Result.{err_from_is_err_and}
-use Rattle.pe_core.specs.Header.{header_view}
-use Rattle.pe_sign.specs.Attaching.{attached_of, attached_file}
+use Rattle.std.proofs.Common.{◌∙◌, sym, refl, rules, arith}
+use Rattle.pe_sign.proofs.Cited.{err_from_is_err_and, header_view, attached_file}
 use Rattle.pe_sign.proofs.Tests.{attached_value, attached_refused, written_refused, written_short, written_done}
 use Rattle.pe_sign.proofs.Writes.{first_of, length-attached}
 use Rattle.pe_sign.proofs.attachment.attach.Goals as goal
@@ -25,19 +22,7 @@ returns-in_err-require_room-clause-written c =
     )
 
 pub returns-clause-written : goal.returns-clause-written
-returns-clause-written c =
-    let l = c.in_ok-left_out.left_out in
-    let b = c.args.bytes.now in
-    let file = attached_file c.args.placement l c.args.certificate.now b in
-    written_done (attached_of c.args.placement b (header_view c.args.header.now) c.args.certificate.now) file c.args.out.now c.attached_length-length.result c.in_ok-require_room.field-0
-    (attached_value c.args.placement b (header_view c.args.header.now) c.args.certificate.now l c.in_ok-left_out.ensures.parts)
-    (length-attached c.args.placement l c.args.certificate.now b c.in_ok-left_out.ensures.fits.image ∙ sym c.attached_length-length.ensures) c.in_ok-require_room.ensures
-    ∙ ap (λ (n : ℕ). Ok (n, file ++ drop n c.args.out.now)) (sym c.set_attached.ensures.value) ∙ ap (λ (x : List ℕ). Ok (c.set_attached.result, x)) (sym c.set_attached.ensures.after)
+returns-clause-written c = search (rules, arith, written_done, attached_value, length-attached)
 
 pub returns-clause-file : goal.returns-clause-file
-returns-clause-file c =
-    let l = c.in_ok-left_out.left_out in
-    let b = c.args.bytes.now in
-    let file = attached_file c.args.placement l c.args.certificate.now b in
-    attached_value c.args.placement b (header_view c.args.header.now) c.args.certificate.now l c.in_ok-left_out.ensures.parts
-    ∙ ap (λ (x : List ℕ). Ok x) (sym (first_of file c.args.out.now _ _ c.set_attached.ensures.value c.set_attached.ensures.after))
+returns-clause-file c = search (rules, arith, attached_value, first_of)

@@ -1,7 +1,5 @@
 use Rattle.std.proofs.Common.{◌∙◌, ap, sym, Bool, Ok, Err}
-use Rattle.std.specs.Prelude.{if◌then◌else◌}
-use Rattle.pe_core.specs.Header.{header_view}
-use Rattle.pe_sign.specs.SignRefusals.{Section}
+use Rattle.pe_sign.proofs.Cited.{if◌then◌else◌, header_view, Section}
 use Rattle.pe_sign.proofs.SectionRows.{section_fails}
 use Rattle.pe_sign.proofs.checks.require_sections.Goals as goal
 

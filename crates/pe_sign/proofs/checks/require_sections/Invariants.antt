@@ -1,8 +1,5 @@
 use Rattle.std.proofs.Common.{◌≡◌, true}
-use Rattle.std.specs.List.{list_all}
-use Rattle.pe_core.specs.Records.{section_table}
-use Rattle.pe_core.specs.Rows.{rows}
-use Rattle.pe_sign.specs.Attaching.{data_ends_by}
+use Rattle.pe_sign.proofs.Cited.{list_all, section_table, rows, data_ends_by}
 use Rattle.pe_sign.proofs.checks.require_sections.Given as goal
 
 -- the sections so far pass

@@ -1,7 +1,5 @@
-use Rattle.std.proofs.Common.{ℕ, ◌-◌, ◌%◌, ap, sym, ◌∙◌}
-use Rattle.pe_sign.specs.Digest.{is_left_out}
-use Rattle.pe_sign.specs.declared.digest.LeftOut.{LeftOut}
-use Rattle.pe_sign.specs.declared.digest.Part.{Part}
+use Rattle.std.proofs.Common.{ℕ, ◌-◌, ◌%◌, ap, sym, rules, arith}
+use Rattle.pe_sign.proofs.Cited.{LeftOut, Part}
 use Rattle.pe_sign.proofs.Slices.{both_sides, is_covered, kept_after, kept_before, length_without}
 use Rattle.pe_sign.proofs.digest.ranges_without.Goals as goal
 
@@ -14,9 +12,4 @@ returns-clause-value c =
     (ap (λ (n : ℕ). (8 - n % 8) % 8) (sym (length_without l.certificates whole _ _ c.cut.ensures.cut)))
 
 pub returns-clause-sides : goal.returns-clause-sides
-returns-clause-sides c =
-    let l : LeftOut = c.args.left_out.now in
-    record {
-      before = c.without_fields.ensures ∙ kept_before (is_left_out l) l.certificates c.args.bytes.now c.cut.result.0 c.cut.ensures.cut.start c.cut.ensures.before;
-      after = c.without_fields-2.ensures ∙ kept_after (is_left_out l) l.certificates c.args.bytes.now c.cut.result.1 c.cut.ensures.after c.cut.ensures.offset;
-    }
+returns-clause-sides c = search (rules, arith, kept_before, kept_after)

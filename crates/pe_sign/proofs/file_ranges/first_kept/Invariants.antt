@@ -1,6 +1,5 @@
 use Rattle.std.proofs.Common.{◌-◌, ◌≤◌, true}
-use Rattle.pe_sign.specs.Digest.{is_left_out}
-use Rattle.pe_sign.specs.DigestSteps.{Between}
+use Rattle.pe_sign.proofs.Cited.{is_left_out, Between}
 use Rattle.pe_sign.proofs.file_ranges.first_kept.Given as goal
 
 -- the offsets so far are left out

@@ -1,7 +1,5 @@
 use Rattle.std.proofs.Common.{◌≡◌}
-use Rattle.std.specs.List.{fold}
-use Rattle.pe_core.specs.Rows.{each}
-use Rattle.pe_sign.specs.Checksum.{with_carry, summed_word}
+use Rattle.pe_sign.proofs.Cited.{fold, each, with_carry, summed_word}
 use Rattle.pe_sign.proofs.image_checksum.checksum_of.Given as goal
 
 -- the sum of the first words

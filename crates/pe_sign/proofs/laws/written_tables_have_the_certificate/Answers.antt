@@ -1,19 +1,9 @@
-use Rattle.std.proofs.Common.{◌≡◌, ℕ, ◌+◌, ◌%◌, ◌<◌, ◌≤◌, Bool, true, false, List, ◌++◌, length, get_or, take, Ok, refl, ap, sym, ◌∙◌, subst, arith}
-use Rattle.std.specs.Prelude.{if◌then◌else◌}
-use Rattle.std.proofs.lemmas.Bool.Decides.{nat_tests}
-use Rattle.std.proofs.lemmas.List.{places, ext_get_or, get_or-append-add}
+use Rattle.std.proofs.Common.{◌≡◌, ℕ, ◌+◌, ◌%◌, ◌<◌, ◌≤◌, Bool, true, false, List, length, get_or, take, Ok, refl, ap, sym, ◌∙◌, subst, arith, rules}
+use Rattle.pe_sign.proofs.Cited.{if◌then◌else◌, nat_tests, places, ext_get_or, get_or-append-add, range, HeaderView, StandAt}
+use Rattle.pe_sign.proofs.Cited.{bytes_in, rounded_up, is_signed, unsigned_length, padded, kept_length, table_start, entry_to}
+use Rattle.pe_sign.proofs.Cited.{joined_file, attached_file, attached_of, Fits, left_out_of, Placement, After, InPlace, LeftOut}
 use Rattle.pe_core.proofs.Ranges.{length_range, byte_of_range}
-use Rattle.pe_core.specs.Bytes.{range}
-use Rattle.pe_core.specs.Header.{HeaderView}
-use Rattle.pe_core.specs.Offsets.{StandAt, bytes_in}
-use Rattle.pe_core.specs.SectionMap.{rounded_up}
-use Rattle.pe_sign.specs.Attaching.{is_aligned, is_signed, unsigned_length, padded, kept_length, table_start, entry_to, joined_file, attached_file, attached_of}
-use Rattle.pe_sign.specs.AttachingSteps.{Fits}
-use Rattle.pe_sign.specs.Digest.{left_out_of}
 use Rattle.pe_sign.specs.WrittenTables.{TableIs, TableContinues}
-use Rattle.pe_sign.specs.declared.attachment.Placement.{Placement}
-use Rattle.pe_sign.specs.declared.attachment.Placement.TheVariants.{After, InPlace}
-use Rattle.pe_sign.specs.declared.digest.LeftOut.{LeftOut}
 use Rattle.pe_sign.proofs.Digests.{agree_fields, holds_joined, holds_unsigned, past_fields}
 use Rattle.pe_sign.proofs.Entries.{image_at, tests_at}
 use Rattle.pe_sign.proofs.Splices.{length-padded}
@@ -36,9 +26,6 @@ padded_same : (y : List ℕ) (k : ℕ) → k < length y → get_or (padded y) k 
 unfolding padded
 padded_same y k h = grind (arith, places)
 
-back_same : (x y : List ℕ) (k : ℕ) → k < length y → get_or (padded x ++ padded y) (rounded_up (length x) 8 + k) 0 ≡ get_or y k 0
-back_same x y k h = ap (λ (n : ℕ). get_or (padded x ++ padded y) (n + k) 0) (sym (length-padded x)) ∙ get_or-append-add (padded x) (padded y) k 0 ∙ padded_same y k h
-
 -- bytes that are the same as a part are the part
 stands_if : (f part : List ℕ) (p : ℕ) → p + length part ≤ length f → ((k : ℕ) → k < length part → get_or f (p + k) 0 ≡ get_or part k 0) → StandAt f p part
 stands_if f part p h same = record {
@@ -50,12 +37,7 @@ stands_if f part p h same = record {
 
 new_stands : (placement : Placement) (l : LeftOut) (c b : List ℕ) → Fits l (length b) → StandAt (attached_file placement l c b) (rounded_up (kept_length placement l (length b)) 8) c
 new_stands placement l c b f =
-    let kept : ℕ = kept_length placement l (length b) in
-    let p : ℕ = rounded_up kept 8 in
-    let x : List ℕ = take kept b in
-    let size : length x ≡ kept = length-kept placement l b f in
-    stands_if (attached_file placement l c b) c p (omega (arith, length-attached placement l c b f))
-    (λ k lt. after_fields placement l c b f (p + k) (omega (arith, kept_holds placement l (length b) f)) ∙ ap (λ (n : ℕ). get_or (padded x ++ padded c) (rounded_up n 8 + k) 0) (sym size) ∙ back_same x c k lt)
+    grind (arith, length-kept, stands_if, length-attached, after_fields, kept_holds, length-padded, get_or-append-add, padded_same)
 
 -- ---- the table that is kept
 
@@ -73,17 +55,13 @@ old_stands l c b f u e =
 -- ---- by the calls
 
 signed_start : (s : Bool) (o n : ℕ) → s ≡ true → (if s then o else n) ≡ o
-signed_start true o n h = refl
-signed_start false o n h = absurd cc
+signed_start s o n h = grind arith
 
 unsigned_start : (s : Bool) (o n : ℕ) → s ≡ false → (if s then o else n) ≡ n
-unsigned_start true o n h = absurd cc
-unsigned_start false o n h = refl
+unsigned_start s o n h = grind arith
 
 aligned_at : (b : List ℕ) (h : HeaderView) (c f : List ℕ) (l : LeftOut) → left_out_of h ≡ Ok l → attached_of After b h c ≡ Ok f → l.certificates.offset % 8 ≡ 0
-aligned_at b h c f l e i =
-    let one = passed (is_aligned After l) _ _ f (tests_at After b h c f l (image_at After b h c f l e i) i) in
-    grind (arith, nat_tests, one.0)
+aligned_at b h c f l e i = grind (arith, passed, tests_at, image_at, nat_tests)
 
 table_is : (placement : Placement) (b : List ℕ) (h : HeaderView) (c f : List ℕ) (l : LeftOut) → left_out_of h ≡ Ok l → attached_of placement b h c ≡ Ok f →
     table_start placement l (length b) ≡ rounded_up (kept_length placement l (length b)) 8 → TableIs c f (table_start placement l (length b))
@@ -114,11 +92,5 @@ table_continues b h c f l e i s =
     let end : length f ≡ p + rounded_up (length c) 8 = ap (λ (g : List ℕ). length g) is.is_file ∙ length-attached After l c b is.fits in
     record { aligned = aligned; last = sym last; stays = old; stands = rw at at new; end = omega (arith, end) }
 
-pub returns-clause-in_place : goal.returns-clause-in_place
-returns-clause-in_place c = table_in_place
-
-pub returns-clause-first : goal.returns-clause-first
-returns-clause-first c = first_table
-
-pub returns-clause-after : goal.returns-clause-after
-returns-clause-after c = table_continues
+pub returns : goal.returns
+returns c = search (rules, arith, table_in_place, first_table, table_continues)

@@ -1,6 +1,5 @@
 use Rattle.std.proofs.Common.{arith}
-use Rattle.std.proofs.lemmas.Result.{err_from_is_err_and}
-use Rattle.pe_version.specs.VersionRefusals.{block_view}
+use Rattle.pe_version.proofs.Cited.{err_from_is_err_and, block_view}
 use Rattle.pe_version.proofs.Calls.{length_refused, length_returned, small_end}
 use Rattle.pe_version.proofs.block.block_len.Goals as goal
 

@@ -1,7 +1,5 @@
 use Rattle.std.proofs.Common.{◌≡◌, ◌≤◌, ◌-◌, ◌%◌, ◌==◌, drop, length}
-use Rattle.std.specs.Prelude.{not}
-use Rattle.std.specs.List.{list_all}
-use Rattle.pe_resource.specs.VersionStrings.{units}
+use Rattle.pe_version.proofs.Cited.{not, list_all, units}
 use Rattle.pe_version.proofs.block.key_fits.Given as goal
 
 -- the code units so far are not zero

@@ -1,6 +1,5 @@
 use Rattle.std.proofs.Common.{refl, arith}
-use Rattle.std.proofs.lemmas.Result.{err_from_is_err_and}
-use Rattle.pe_version.specs.VersionRefusals.{block_view}
+use Rattle.pe_version.proofs.Cited.{err_from_is_err_and, block_view}
 use Rattle.pe_version.proofs.Calls.{file_returned, fits, parts_are, room_inside, room_short, small_end, written_refused}
 use Rattle.pe_version.proofs.block.write_block.Goals as goal
 
@@ -17,14 +16,12 @@ returns-in_err-require_room c =
     let p = err_from_is_err_and c.from_residual-in_err-require_room.result c.from_residual-in_err-require_room.ensures.1 in
     rw (p.1, p.2) (room_short (block_view c.args.block.now) c.in_ok-parts.parts c.args.out.now c.rounded_up-size.result _ c.in_ok-parts.ensures c.rounded_up-size.ensures.up c.in_err-require_room.ensures, refl)
 
-pub set_block-requires-clause-parts : goal.set_block-requires-clause-parts
-set_block-requires-clause-parts c = parts_are (block_view c.args.block.now) c.in_ok-parts.parts c.in_ok-parts.ensures
-
-pub set_block-requires-clause-fits : goal.set_block-requires-clause-fits
-set_block-requires-clause-fits c = fits (block_view c.args.block.now) c.in_ok-parts.parts c.in_ok-parts.ensures
-
-pub set_block-requires-clause-room : goal.set_block-requires-clause-room
-set_block-requires-clause-room c = room_inside (block_view c.args.block.now) c.in_ok-parts.parts c.args.out.now c.rounded_up-size.result c.in_ok-require_room.field-0 c.in_ok-parts.ensures c.rounded_up-size.ensures.up c.in_ok-require_room.ensures
+pub set_block-requires : goal.set_block-requires
+set_block-requires c = record {
+  parts = parts_are (block_view c.args.block.now) c.in_ok-parts.parts c.in_ok-parts.ensures;
+  fits = fits (block_view c.args.block.now) c.in_ok-parts.parts c.in_ok-parts.ensures;
+  room = room_inside (block_view c.args.block.now) c.in_ok-parts.parts c.args.out.now c.rounded_up-size.result c.in_ok-require_room.field-0 c.in_ok-parts.ensures c.rounded_up-size.ensures.up c.in_ok-require_room.ensures;
+}
 
 pub returns : goal.returns
 returns c =

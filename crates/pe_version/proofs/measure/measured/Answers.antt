@@ -1,6 +1,4 @@
-use Rattle.std.proofs.lemmas.Result.{err_from_is_err_and}
-use Rattle.pe_version.specs.VersionRecords.{value_of}
-use Rattle.pe_version.specs.VersionValues.{Value, strings_block}
+use Rattle.pe_version.proofs.Cited.{err_from_is_err_and, value_of, Value, strings_block}
 use Rattle.pe_version.proofs.Measures.{strings_measured, strings_refused, tables_refused, variables_refused, version_returns}
 use Rattle.pe_version.proofs.measure.measured.Goals as goal
 

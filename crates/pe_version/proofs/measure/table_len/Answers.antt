@@ -1,7 +1,5 @@
 use Rattle.std.proofs.Common.{ap, ◌∙◌}
-use Rattle.std.proofs.lemmas.Result.{err_from_is_err_and}
-use Rattle.pe_version.specs.VersionRecords.{table_of}
-use Rattle.pe_version.specs.VersionValues.{key_of}
+use Rattle.pe_version.proofs.Cited.{err_from_is_err_and, table_of, key_of}
 use Rattle.pe_version.proofs.Measures.{no_length, refused_by_capped, table_refused, table_returns}
 use Rattle.pe_version.proofs.measure.table_len.Goals as goal
 

@@ -1,7 +1,5 @@
-use Rattle.std.proofs.Common.{List, ℕ, Result, ap, ◌∙◌}
-use Rattle.std.proofs.lemmas.Result.{err_from_is_err_and}
-use Rattle.pe_version.specs.VersionRecords.{capped_length_of, table_of}
-use Rattle.pe_version.specs.VersionRefusals.{VersionRefusal}
+use Rattle.std.proofs.Common.{List, ℕ, Result, ap, ◌∙◌, rules, arith}
+use Rattle.pe_version.proofs.Cited.{err_from_is_err_and, capped_length_of, table_of, VersionRefusal}
 use Rattle.pe_version.proofs.Measures.{all_measured, table_bytes_by, one_measured, one_unmeasured, table_tests_by, tables_by}
 use Rattle.pe_version.proofs.measure.tables_len.Goals as goal
 
@@ -17,6 +15,4 @@ loop-index-preserved c =
     one_measured (table_tests_by (table_of c.args.texts.now c.args.strings.now)) (table_bytes_by (table_of c.args.texts.now c.args.strings.now)) c.loop-index.sum c.in_ok-size.size c.sum_of-sum.result c.loop-index.index c.args.tables.now _ c.loop-index-test.true c.in_ok-size.ensures c.sum_of-sum.ensures c.loop-index.invariant
 
 pub returns : goal.returns
-returns c =
-    ap (λ (x : Result (List ℕ) VersionRefusal). capped_length_of x) (tables_by (table_of c.args.texts.now c.args.strings.now) c.args.tables.now)
-    ∙ all_measured (table_tests_by (table_of c.args.texts.now c.args.strings.now)) (table_bytes_by (table_of c.args.texts.now c.args.strings.now)) c.loop-index.sum c.loop-index.index c.args.tables.now c.loop-index-test.false c.loop-index.invariant
+returns c = search (rules, arith, tables_by, all_measured, table_tests_by, table_bytes_by)

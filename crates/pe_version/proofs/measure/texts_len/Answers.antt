@@ -1,7 +1,5 @@
-use Rattle.std.proofs.Common.{List, ℕ, Result, ap, ◌∙◌}
-use Rattle.std.proofs.lemmas.Result.{err_from_is_err_and}
-use Rattle.pe_version.specs.VersionRecords.{capped_length_of, text_of}
-use Rattle.pe_version.specs.VersionRefusals.{VersionRefusal}
+use Rattle.std.proofs.Common.{List, ℕ, Result, ap, ◌∙◌, rules, arith}
+use Rattle.pe_version.proofs.Cited.{err_from_is_err_and, capped_length_of, text_of, VersionRefusal}
 use Rattle.pe_version.proofs.Measures.{all_measured, bytes_by, one_measured, one_unmeasured, tests_by, texts_by}
 use Rattle.pe_version.proofs.measure.texts_len.Goals as goal
 
@@ -17,6 +15,4 @@ loop-index-preserved c =
     one_measured (tests_by (text_of c.args.texts.now)) (bytes_by (text_of c.args.texts.now)) c.loop-index.sum c.in_ok-size.size c.sum_of-sum.result c.loop-index.index c.args.records.now _ c.loop-index-test.true c.in_ok-size.ensures c.sum_of-sum.ensures c.loop-index.invariant
 
 pub returns : goal.returns
-returns c =
-    ap (λ (x : Result (List ℕ) VersionRefusal). capped_length_of x) (texts_by (text_of c.args.texts.now) c.args.records.now)
-    ∙ all_measured (tests_by (text_of c.args.texts.now)) (bytes_by (text_of c.args.texts.now)) c.loop-index.sum c.loop-index.index c.args.records.now c.loop-index-test.false c.loop-index.invariant
+returns c = search (rules, arith, texts_by, all_measured, tests_by, bytes_by)

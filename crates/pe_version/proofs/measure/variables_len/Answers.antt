@@ -1,9 +1,5 @@
 use Rattle.std.proofs.Common.{◌≡◌, ◌*◌, List, map, length, arith}
-use Rattle.std.proofs.lemmas.List.{length-map}
-use Rattle.std.proofs.lemmas.Result.{err_from_is_err_and}
-use Rattle.pe_resource.specs.declared.version_block.Translation.{Translation}
-use Rattle.pe_version.specs.VersionRecords.{pair_of}
-use Rattle.pe_version.specs.VersionValues.{translation_block}
+use Rattle.pe_version.proofs.Cited.{length-map, err_from_is_err_and, Translation, pair_of, translation_block}
 use Rattle.pe_version.proofs.Measures.{many_refused, pairs_measured, pairs_refused, variables_return}
 use Rattle.pe_version.proofs.measure.variables_len.Goals as goal
 

@@ -1,12 +1,8 @@
-use Rattle.std.proofs.Common.{◌≡◌, ℕ, ◌+◌, ◌*◌, get_or, List, length, map, ap, sym, ◌∙◌, arith}
-use Rattle.std.specs.List.{flat_map}
-use Rattle.std.proofs.lemmas.List.{length-map}
+use Rattle.std.proofs.Common.{◌≡◌, ℕ, ◌+◌, ◌*◌, get_or, List, length, map, ap, sym, ◌∙◌, arith, rules}
+use Rattle.pe_version.proofs.Cited.{flat_map, length-map, pair_of, translation_bytes, LanguageRecord}
 use Rattle.std.proofs.lemmas.List.Folds.{flat_map-map}
-use Rattle.pe_core.specs.Bytes.{splice}
-use Rattle.pe_version.specs.VersionRecords.{pair_of}
-use Rattle.pe_version.specs.VersionValues.{translation_bytes}
-use Rattle.pe_version.specs.declared.record.LanguageRecord.{LanguageRecord}
-use Rattle.pe_version.proofs.Heads.{four_bytes, put_all, put_more, put_none, put_room, two_put}
+use Rattle.pe_version.proofs.VersionsRead.{length-translation}
+use Rattle.pe_version.proofs.Heads.{put_all, put_more, put_none, put_room, two_put}
 use Rattle.pe_version.proofs.Measures.{length_pairs}
 use Rattle.pe_version.proofs.put.put_pairs.Goals as goal
 
@@ -25,21 +21,19 @@ loop-index-init c = put_none bytes c.args.out.now c.args.at c.args.translations.
 pub set_u16-requires : goal.set_u16-requires
 set_u16-requires c =
     let room = put_room bytes c.args.out.now c.loop-index.out c.args.at c.loop-index.end c.loop-index.index c.args.translations.now none c.loop-index-test.true c.loop-index.invariant in
-    omega (arith, room, four_bytes (pair_of (get_or c.args.translations.now c.loop-index.index none)))
+    omega (arith, room, length-translation (pair_of (get_or c.args.translations.now c.loop-index.index none)))
 
 pub set_u16-requires-in-loop-index : goal.set_u16-requires-in-loop-index
 set_u16-requires-in-loop-index c =
     let room = put_room bytes c.args.out.now c.loop-index.out c.args.at c.loop-index.end c.loop-index.index c.args.translations.now none c.loop-index-test.true c.loop-index.invariant in
-    omega (arith, room, four_bytes (pair_of (get_or c.args.translations.now c.loop-index.index none)), c.set_u16.auto.buffer)
+    omega (arith, room, length-translation (pair_of (get_or c.args.translations.now c.loop-index.index none)), c.set_u16.auto.buffer)
 
 pub loop-index-preserved : goal.loop-index-preserved
 loop-index-preserved c =
     let room = put_room bytes c.args.out.now c.loop-index.out c.args.at c.loop-index.end c.loop-index.index c.args.translations.now none c.loop-index-test.true c.loop-index.invariant in
     put_more bytes c.args.out.now c.loop-index.out c.set_u16-in-loop-index.new.buffer c.args.at c.loop-index.end (c.loop-index.end + 4) c.loop-index.index c.args.translations.now _ c.loop-index-test.true c.loop-index.invariant
-    (two_put c.loop-index.out c.set_u16.new.buffer c.set_u16-in-loop-index.new.buffer c.loop-index.end _ _ (omega (arith, room, four_bytes (pair_of (get_or c.args.translations.now c.loop-index.index none)))) c.set_u16.ensures c.set_u16-in-loop-index.ensures)
-    (ap (λ (n : ℕ). c.loop-index.end + n) (sym (four_bytes _)))
+    (two_put c.loop-index.out c.set_u16.new.buffer c.set_u16-in-loop-index.new.buffer c.loop-index.end _ _ (omega (arith, room, length-translation (pair_of (get_or c.args.translations.now c.loop-index.index none)))) c.set_u16.ensures c.set_u16-in-loop-index.ensures)
+    (ap (λ (n : ℕ). c.loop-index.end + n) (sym (length-translation _)))
 
 pub returns : goal.returns
-returns c =
-    put_all bytes c.args.out.now c.loop-index.out c.args.at c.loop-index.end c.loop-index.index c.args.translations.now c.loop-index-test.false c.loop-index.invariant
-    ∙ ap (splice c.args.out.now c.args.at) (sym (flat_map-map translation_bytes pair_of c.args.translations.now))
+returns c = search (rules, arith, put_all, flat_map-map)

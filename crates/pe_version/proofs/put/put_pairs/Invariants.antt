@@ -1,5 +1,4 @@
-use Rattle.pe_version.specs.VersionRecords.{pair_of}
-use Rattle.pe_version.specs.VersionValues.{translation_bytes}
+use Rattle.pe_version.proofs.Cited.{pair_of, translation_bytes}
 use Rattle.pe_version.proofs.Heads.{PutTo}
 use Rattle.pe_version.proofs.put.put_pairs.Given as goal
 

@@ -1,8 +1,5 @@
 use Rattle.std.proofs.Common.{◌+◌, ◌-◌, List, length, map, refl, ap, ◌∙◌, arith}
-use Rattle.pe_version.specs.VersionRecords.{table_of, text_of}
-use Rattle.pe_version.specs.VersionValues.{TableValue, key_of, table_block, text_blocks}
-use Rattle.pe_version.specs.WrittenBlocks.{Fits}
-use Rattle.pe_version.specs.declared.record.StringRecord.{StringRecord}
+use Rattle.pe_version.proofs.Cited.{table_of, text_of, TableValue, key_of, table_block, text_blocks, Fits, StringRecord}
 use Rattle.pe_version.proofs.Heads.{parent_put, table_texts, table_whole, texts_four}
 use Rattle.pe_version.proofs.Measures.{before_four}
 use Rattle.pe_version.proofs.put.put_table.Goals as goal

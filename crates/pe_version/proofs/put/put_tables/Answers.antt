@@ -1,7 +1,5 @@
-use Rattle.std.proofs.Common.{ℕ, ◌+◌, List, length, ap, sym, ◌∙◌, arith}
-use Rattle.pe_core.specs.Bytes.{splice}
-use Rattle.pe_version.specs.VersionRecords.{table_of}
-use Rattle.pe_version.specs.declared.record.TableRecord.{TableRecord}
+use Rattle.std.proofs.Common.{ℕ, ◌+◌, ap, sym, ◌∙◌, arith, rules}
+use Rattle.pe_version.proofs.Cited.{table_of, TableRecord}
 use Rattle.pe_version.proofs.Calls.{padded_size}
 use Rattle.pe_version.proofs.Heads.{put_all, put_end, put_more, put_none, put_room, table_fits, table_whole}
 use Rattle.pe_version.proofs.Measures.{table_bytes_by, tables_bytes}
@@ -11,9 +9,7 @@ abbrev none : TableRecord
 none = record { first = 0; count = 0; language = record { language = 0; code_page = 0 } }
 
 pub loop-index-init : goal.loop-index-init
-loop-index-init c =
-    let g = table_of c.args.value.now.texts.now c.args.value.now.strings.now in
-    put_none (table_bytes_by g) c.args.out.now c.args.at c.args.value.now.tables.now (omega (arith, c.requires.room, ap length (tables_bytes g c.args.value.now.tables.now)))
+loop-index-init c = search (rules, arith, put_none, table_bytes_by, tables_bytes)
 
 pub put_table-end-requires-clause-fits : goal.put_table-end-requires-clause-fits
 put_table-end-requires-clause-fits c = table_fits (table_of c.args.value.now.texts.now c.args.value.now.strings.now) c.args.value.now.tables.now c.loop-index.index none c.loop-index-test.true c.requires.fits
@@ -33,13 +29,7 @@ loop-index-preserved c =
     c.put_table-end.ensures.after (c.put_table-end.ensures.end ∙ ap (λ (n : ℕ). c.loop-index.end + n) (sym (padded_size _ (table_whole _ fits))))
 
 pub returns-clause-after : goal.returns-clause-after
-returns-clause-after c =
-    let g = table_of c.args.value.now.texts.now c.args.value.now.strings.now in
-    put_all (table_bytes_by g) c.args.out.now c.loop-index.out c.args.at c.loop-index.end c.loop-index.index c.args.value.now.tables.now c.loop-index-test.false c.loop-index.invariant
-    ∙ ap (splice c.args.out.now c.args.at) (sym (tables_bytes g c.args.value.now.tables.now))
+returns-clause-after c = search (rules, arith, put_all, table_bytes_by, tables_bytes)
 
 pub returns-clause-end : goal.returns-clause-end
-returns-clause-end c =
-    let g = table_of c.args.value.now.texts.now c.args.value.now.strings.now in
-    put_end (table_bytes_by g) c.args.out.now c.loop-index.out c.args.at c.loop-index.end c.loop-index.index c.args.value.now.tables.now c.loop-index-test.false c.loop-index.invariant
-    ∙ ap (λ (l : List ℕ). c.args.at + length l) (sym (tables_bytes g c.args.value.now.tables.now))
+returns-clause-end c = search (rules, arith, put_end, table_bytes_by, tables_bytes)

@@ -1,8 +1,5 @@
 use Rattle.std.proofs.Common.{List, ℕ, length, ap, ◌∙◌, arith}
-use Rattle.pe_core.specs.Bytes.{splice}
-use Rattle.pe_edit.specs.Views.{part_of}
-use Rattle.pe_version.specs.VersionValues.{text_block}
-use Rattle.pe_version.specs.WrittenBlocks.{padded_block}
+use Rattle.pe_version.proofs.Cited.{splice, part_of, text_block, padded_block}
 use Rattle.pe_version.proofs.Heads.{text_put}
 use Rattle.pe_version.proofs.put.put_text.Goals as goal
 

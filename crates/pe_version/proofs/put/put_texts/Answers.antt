@@ -1,7 +1,5 @@
-use Rattle.std.proofs.Common.{ℕ, ◌+◌, List, length, ap, sym, ◌∙◌, arith}
-use Rattle.pe_core.specs.Bytes.{splice}
-use Rattle.pe_version.specs.VersionRecords.{text_of}
-use Rattle.pe_version.specs.declared.record.StringRecord.{StringRecord}
+use Rattle.std.proofs.Common.{ℕ, ◌+◌, ap, sym, ◌∙◌, arith, rules}
+use Rattle.pe_version.proofs.Cited.{text_of, StringRecord}
 use Rattle.pe_version.proofs.Calls.{padded_size}
 use Rattle.pe_version.proofs.Heads.{put_all, put_end, put_more, put_none, put_room, text_fits}
 use Rattle.pe_version.proofs.Measures.{bytes_by, texts_bytes}
@@ -11,8 +9,7 @@ abbrev none : StringRecord
 none = record { name = record { offset = 0; length = 0 }; text = record { offset = 0; length = 0 } }
 
 pub loop-index-init : goal.loop-index-init
-loop-index-init c =
-    put_none (bytes_by (text_of c.args.texts.now)) c.args.out.now c.args.at c.args.records.now (omega (arith, c.requires.room, ap length (texts_bytes (text_of c.args.texts.now) c.args.records.now)))
+loop-index-init c = search (rules, arith, put_none, bytes_by, texts_bytes)
 
 pub put_text-end-requires-clause-fits : goal.put_text-end-requires-clause-fits
 put_text-end-requires-clause-fits c = text_fits (text_of c.args.texts.now) c.args.records.now c.loop-index.index none c.loop-index-test.true c.requires.fits
@@ -30,11 +27,7 @@ loop-index-preserved c =
     c.put_text-end.ensures.after (c.put_text-end.ensures.end ∙ ap (λ (n : ℕ). c.loop-index.end + n) (sym (padded_size _ fits)))
 
 pub returns-clause-after : goal.returns-clause-after
-returns-clause-after c =
-    put_all (bytes_by (text_of c.args.texts.now)) c.args.out.now c.loop-index.out c.args.at c.loop-index.end c.loop-index.index c.args.records.now c.loop-index-test.false c.loop-index.invariant
-    ∙ ap (splice c.args.out.now c.args.at) (sym (texts_bytes (text_of c.args.texts.now) c.args.records.now))
+returns-clause-after c = search (rules, arith, put_all, bytes_by, texts_bytes)
 
 pub returns-clause-end : goal.returns-clause-end
-returns-clause-end c =
-    put_end (bytes_by (text_of c.args.texts.now)) c.args.out.now c.loop-index.out c.args.at c.loop-index.end c.loop-index.index c.args.records.now c.loop-index-test.false c.loop-index.invariant
-    ∙ ap (λ (l : List ℕ). c.args.at + length l) (sym (texts_bytes (text_of c.args.texts.now) c.args.records.now))
+returns-clause-end c = search (rules, arith, put_end, bytes_by, texts_bytes)

@@ -1,41 +1,23 @@
-use Rattle.std.proofs.Common.{List, ℕ, ap, length, ◌∙◌, arith}
-use Rattle.pe_core.specs.Bytes.{splice}
-use Rattle.pe_version.specs.VersionRecords.{value_of}
-use Rattle.pe_version.specs.VersionValues.{Value}
+use Rattle.std.proofs.Common.{List, ℕ, ap, ◌∙◌, arith, rules}
+use Rattle.pe_version.proofs.Cited.{splice, value_of, Value}
 use Rattle.pe_version.proofs.Heads.{PartsFit, length_numbers, parts_fit, root_length, root_size, version_put}
 use Rattle.pe_version.proofs.Measures.{length_fixed}
 use Rattle.pe_version.proofs.put.put_version.Goals as goal
 
 pub put_strings-middle-requires : goal.put_strings-middle-requires
-put_strings-middle-requires c =
-    let v : Value = value_of c.args.value.now in
-    let p : PartsFit v = parts_fit v c.requires.fits in
-    record { fits = p.tables; whole = p.strings; room = omega (arith, c.requires.room, root_size v p) }
+put_strings-middle-requires c = search (rules, arith, parts_fit, root_size)
 
 pub put_variables-end-requires : goal.put_variables-end-requires
-put_variables-end-requires c =
-    let v : Value = value_of c.args.value.now in
-    let p : PartsFit v = parts_fit v c.requires.fits in
-    record { inner = p.pairs; outer = p.variables; room = omega (arith, c.requires.room, root_size v p, c.put_strings-middle.ensures.end, c.put_strings-middle.auto.out) }
+put_variables-end-requires c = search (rules, arith, parts_fit, root_size)
 
 pub put_numbers-requires : goal.put_numbers-requires
-put_numbers-requires c =
-    let v : Value = value_of c.args.value.now in
-    let p : PartsFit v = parts_fit v c.requires.fits in
-    omega (arith, c.requires.room, root_size v p, c.put_strings-middle.auto.out, c.put_variables-end.auto.out, ap length c.numbers_of.ensures, length_numbers c.numbers_of.result, length_fixed v)
+put_numbers-requires c = search (rules, arith, parts_fit, root_size, length_numbers, length_fixed)
 
 pub put_head-requires-clause-size : goal.put_head-requires-clause-size
-put_head-requires-clause-size c =
-    let v : Value = value_of c.args.value.now in
-    let p : PartsFit v = parts_fit v c.requires.fits in
-    let root = p.root in
-    omega (arith, root.short, root_length v p, c.put_strings-middle.ensures.end, c.put_variables-end.ensures.end)
+put_head-requires-clause-size c = search (rules, arith, parts_fit, root_length)
 
 pub put_head-requires-clause-room : goal.put_head-requires-clause-room
-put_head-requires-clause-room c =
-    let v : Value = value_of c.args.value.now in
-    let p : PartsFit v = parts_fit v c.requires.fits in
-    omega (arith, c.requires.room, root_size v p, c.put_strings-middle.auto.out, c.put_variables-end.auto.out, c.put_numbers.auto.out, ap length c.root_key.ensures)
+put_head-requires-clause-room c = search (rules, arith, parts_fit, root_size)
 
 pub returns : goal.returns
 returns c =

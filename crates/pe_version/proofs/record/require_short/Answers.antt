@@ -1,8 +1,5 @@
 use Rattle.std.proofs.Common.{Bool, Ok, Err, ap}
-use Rattle.std.specs.Prelude.{if◌then◌else◌}
-use Rattle.pe_edit.proofs.Records.{few_enough, one_added, too_many}
-use Rattle.pe_version.specs.VersionRecords.{least_of_table}
-use Rattle.pe_version.specs.VersionRefusals.{TooLong}
+use Rattle.pe_version.proofs.Cited.{if◌then◌else◌, few_enough, one_added, too_many, least_of_table, TooLong}
 use Rattle.pe_version.proofs.record.require_short.Goals as goal
 
 pub returns-in-None : goal.returns-in-None

@@ -1,5 +1,4 @@
-use Rattle.pe_version.specs.VersionRecords.{least_of_table}
-use Rattle.pe_edit.proofs.Records.{Added}
+use Rattle.pe_version.proofs.Cited.{least_of_table, Added}
 use Rattle.pe_version.proofs.record.require_short.Given as goal
 
 -- the tables so far are added

@@ -1,9 +1,6 @@
-use Rattle.std.proofs.Common.{◌≡◌, ℕ, ◌+◌, Bool, true, false, Option, Some, None, ap, sym, ◌∙◌}
-use Rattle.std.specs.Prelude.{if◌then◌else◌, nat_le}
+use Rattle.std.proofs.Common.{◌≡◌, ℕ, ◌+◌, Bool, true, false, Option, Some, None, ap, sym, ◌∙◌, rules, arith}
+use Rattle.pe_version.proofs.Cited.{if◌then◌else◌, nat_le, total, all_within, one_added, one_too_many, sum_is, least_of_string}
 use Rattle.pe_edit.specs.RecordRefusals.{sum_within}
-use Rattle.pe_edit.specs.Written.{total}
-use Rattle.pe_edit.proofs.Records.{all_within, one_added, one_too_many, sum_is}
-use Rattle.pe_version.specs.VersionRecords.{least_of_string}
 use Rattle.pe_version.proofs.record.strings_added.Goals as goal
 
 -- A sum of the least bytes of blocks, by whether it is within a bound.
@@ -22,7 +19,4 @@ pub loop-index-preserved : goal.loop-index-preserved
 loop-index-preserved c = one_added least_of_string 65535 c.args.strings.now c.args.sum c.loop-index.end c.in-Some.more c.loop-index.index _ c.loop-index-test.true c.in-Some.ensures c.loop-index.invariant
 
 pub returns : goal.returns
-returns c =
-    some_is 65535 c.args.sum (total least_of_string c.args.strings.now) c.loop-index.end
-    (sum_is least_of_string 65535 c.args.strings.now c.args.sum c.loop-index.end c.loop-index.index c.loop-index-test.false c.loop-index.invariant)
-    (all_within least_of_string 65535 c.args.strings.now c.args.sum c.loop-index.end c.loop-index.index c.loop-index-test.false c.loop-index.invariant)
+returns c = search (rules, arith, some_is, sum_is, all_within)

@@ -1,5 +1,4 @@
-use Rattle.pe_version.specs.VersionRecords.{least_of_string}
-use Rattle.pe_edit.proofs.Records.{Added}
+use Rattle.pe_version.proofs.Cited.{least_of_string, Added}
 use Rattle.pe_version.proofs.record.strings_added.Given as goal
 
 -- the strings so far are added

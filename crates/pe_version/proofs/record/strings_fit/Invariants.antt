@@ -1,6 +1,5 @@
 use Rattle.std.proofs.Common.{◌≡◌, true, take}
-use Rattle.std.specs.List.{list_all}
-use Rattle.pe_version.specs.VersionRecords.{string_fits}
+use Rattle.pe_version.proofs.Cited.{list_all, string_fits}
 use Rattle.pe_version.proofs.record.strings_fit.Given as goal
 
 -- the strings so far fit

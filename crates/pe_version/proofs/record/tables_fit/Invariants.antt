@@ -1,6 +1,5 @@
 use Rattle.std.proofs.Common.{◌≡◌, true, take}
-use Rattle.std.specs.List.{list_all}
-use Rattle.pe_version.specs.VersionRecords.{table_fits}
+use Rattle.pe_version.proofs.Cited.{list_all, table_fits}
 use Rattle.pe_version.proofs.record.tables_fit.Given as goal
 
 -- the tables so far fit

@@ -1,8 +1,6 @@
 use Rattle.std.proofs.Common.{◌≡◌, subst}
-use Rattle.std.specs.Option.{option_map}
-use Rattle.pe_directories.specs.DirectoryRefusals.{directory_answer}
+use Rattle.calls_directories.proofs.Cited.{option_map, directory_answer, map_of}
 use Rattle.calls_directories.specs.LibraryFunctions.{turn}
-use Rattle.calls_base.specs.Views.{map_of}
 use Rattle.calls_directories.proofs.LibraryFunctionRuns.{one_more_turn}
 use Rattle.calls_directories.proofs.directories.all_delay_imports.step.Goals as goal
 

@@ -1,10 +1,6 @@
 use Rattle.std.proofs.Common.{Option, Result}
-use Rattle.pe_directories.specs.DirectoryRefusals.{DirectoryRefusal}
-use Rattle.calls_base.specs.KeptSections.{ChangeNothing}
-use Rattle.calls_directories.specs.LibraryFunctions.{StepsLibraryFunctions}
-use Rattle.calls_base.specs.Views.{map_of}
-use Rattle.calls_directories.specs.declared.directories.all_delay_imports.LibraryFunction.{LibraryFunction}
-use Rattle.calls_directories.specs.declared.directories.all_delay_imports.LibraryFunctions.{LibraryFunctions}
+use Rattle.calls_directories.proofs.Cited.{DirectoryRefusal, ChangeNothing, StepsLibraryFunctions, map_of, LibraryFunction}
+use Rattle.calls_directories.proofs.Cited.{LibraryFunctions}
 use Rattle.calls_directories.proofs.directories.all_delay_imports.step.Given as goal
 
 -- a step from here is one from the start

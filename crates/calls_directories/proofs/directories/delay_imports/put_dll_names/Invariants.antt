@@ -1,7 +1,6 @@
 use Rattle.std.proofs.Common.{◌≤◌, length, ◌≡◌}
 use Rattle.calls_directories.proofs.directories.delay_imports.put_dll_names.Given as goal
-use Rattle.calls_base.specs.NearMaps.{IsWindow}
-use Rattle.calls_base.specs.Views.{map_of}
+use Rattle.calls_directories.proofs.Cited.{IsWindow, map_of}
 
 -- as many as there is room for
 abbrev pub invariant-loop-i : goal.invariant-loop-i

@@ -1,9 +1,6 @@
 use Rattle.std.proofs.Common.{◌≡◌}
-use Rattle.std.specs.Prelude.{Some, Ok}
-use Rattle.pe_resource.specs.LeafPositions.{leaf_start}
+use Rattle.calls_directories.proofs.Cited.{Some, Ok, leaf_start, options_of, may_map}
 use Rattle.calls_base.proofs.ResourceRoots.{root_is_there}
-use Rattle.calls_base.specs.Modes.{options_of}
-use Rattle.calls_base.specs.Views.{may_map}
 use Rattle.calls_directories.proofs.directories.tables.resource_root.Goals as goal
 
 -- src/directory_tables.rt:200:43

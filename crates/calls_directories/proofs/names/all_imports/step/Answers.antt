@@ -1,10 +1,5 @@
 use Rattle.std.proofs.Common.{◌≡◌, subst}
-use Rattle.std.specs.Option.{option_map}
-use Rattle.std.specs.Prelude.{◌==◌}
-use Rattle.pe_core.specs.Imports.{entry_size}
-use Rattle.pe_core.specs.Refusals.{answer_of}
-use Rattle.calls_directories.specs.LibraryImports.{turn}
-use Rattle.calls_base.specs.Views.{map_of}
+use Rattle.calls_directories.proofs.Cited.{option_map, ◌==◌, entry_size, answer_of, turn, map_of}
 use Rattle.calls_directories.proofs.LibraryImportRuns.{one_more_turn}
 use Rattle.calls_directories.proofs.names.all_imports.step.Goals as goal
 

@@ -1,13 +1,6 @@
 use Rattle.std.proofs.Common.{◌-◌, ◌^◌, Option, Result}
-use Rattle.std.specs.Prelude.{◌==◌}
-use Rattle.pe_core.specs.Imports.{entry_size}
-use Rattle.pe_core.specs.Refusals.{Refusal}
-use Rattle.calls_directories.specs.LibraryImports.{StepsLibraryImports}
-use Rattle.calls_base.specs.KeptSections.{ChangeNothing}
-use Rattle.calls_base.specs.NearMaps.{IsWindow}
-use Rattle.calls_base.specs.Views.{map_of}
-use Rattle.calls_directories.specs.declared.names.all_imports.LibraryImport.{LibraryImport}
-use Rattle.calls_directories.specs.declared.names.all_imports.LibraryImports.{LibraryImports}
+use Rattle.calls_directories.proofs.Cited.{◌==◌, entry_size, Refusal, StepsLibraryImports, ChangeNothing, IsWindow, map_of}
+use Rattle.calls_directories.proofs.Cited.{LibraryImport, LibraryImports}
 use Rattle.calls_directories.proofs.names.all_imports.step.Given as goal
 
 -- a step from here is one from the start

@@ -1,7 +1,6 @@
 use Rattle.std.proofs.Common.{◌≤◌, length, ◌≡◌}
 use Rattle.calls_directories.proofs.names.export_texts.put_text_offsets.Given as goal
-use Rattle.calls_directories.specs.ExportWindows.{AreNear}
-use Rattle.calls_base.specs.Views.{map_of}
+use Rattle.calls_directories.proofs.Cited.{AreNear, map_of}
 
 -- as many as there is room for
 abbrev pub invariant-loop-i : goal.invariant-loop-i

@@ -1,6 +1,5 @@
 use Rattle.calls_directories.proofs.names.export_texts.texts_cost_much.Given as goal
-use Rattle.calls_directories.specs.ExportWindows.{AreNear}
-use Rattle.calls_base.specs.Views.{map_of}
+use Rattle.calls_directories.proofs.Cited.{AreNear, map_of}
 
 abbrev pub invariant-loop-i : goal.invariant-loop-i
 invariant-loop-i l = AreNear (map_of l.view) l.windows

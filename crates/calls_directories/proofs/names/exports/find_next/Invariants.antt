@@ -1,6 +1,5 @@
 use Rattle.calls_directories.proofs.names.exports.find_next.Given as goal
-use Rattle.calls_directories.specs.Exports.{HaveNone, reported_entry, view_of}
-use Rattle.calls_base.specs.KeptSections.{map_kept}
+use Rattle.calls_directories.proofs.Cited.{HaveNone, reported_entry, view_of, map_kept}
 
 -- no entry before the i-th has an export
 abbrev pub invariant-loop-i : goal.invariant-loop-i

@@ -1,7 +1,5 @@
 use Rattle.calls_directories.proofs.names.near_exports.find_near.Given as goal
-use Rattle.calls_directories.specs.Exports.{HaveNone, reported_entry, view_of}
-use Rattle.calls_directories.specs.ExportWindows.{AreNear}
-use Rattle.calls_base.specs.Views.{map_of}
+use Rattle.calls_directories.proofs.Cited.{HaveNone, reported_entry, view_of, AreNear, map_of}
 
 -- no entry before the i-th has an export
 abbrev pub invariant-loop-i : goal.invariant-loop-i

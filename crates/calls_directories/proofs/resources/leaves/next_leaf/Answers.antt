@@ -1,10 +1,8 @@
 use Rattle.std.proofs.Common.{◌∷◌, Result, sym, ap, ◌∙◌}
-use Rattle.pe_resource.specs.LeafPositions.{leaves_at}
-use Rattle.pe_resource.specs.Leaves.{tree_answer}
+use Rattle.calls_directories.proofs.Cited.{leaves_at, tree_answer, map_kept}
 use Rattle.pe_resource.specs.declared.leaves.ResourceLeaf.{ResourceLeaf}
 use Rattle.pe_resource.specs.declared.tree_error.ResourceTreeError.{ResourceTreeError}
 use Rattle.calls_directories.proofs.LeafRuns.{after_leaf}
-use Rattle.calls_base.specs.KeptSections.{map_kept}
 use Rattle.calls_directories.proofs.resources.leaves.next_leaf.Goals as goal
 
 pub returns-clause-left : goal.returns-clause-left

@@ -1,11 +1,7 @@
 use Rattle.pe_frame.specs.Arm64Walks as arm64
-use Rattle.pe_frame.specs.Walks.{Calls}
-use Rattle.calls_stacks.specs.Arm64StackWalks.{arm64_stack_walks}
-use Rattle.calls_stacks.specs.StackWalks.{stack_walks}
+use Rattle.pe_c.proofs.Cited.{Calls, arm64_stack_walks, stack_walks, ascend, keep_marks}
 use Rattle.calls_stacks.proofs.Arm64WalkFrames as arm64_frames
-use Rattle.pe_frame.specs.MemoryLists.{ascend}
 use Rattle.calls_stacks.proofs.RunWalks.{either_way, over_runs}
-use Rattle.calls_stacks.proofs.WalkFrames.{keep_marks}
 use Rattle.pe_c.proofs.laws.dumps.walks_over_runs_are_over_pieces.Goals as goal
 
 pub returns : goal.returns

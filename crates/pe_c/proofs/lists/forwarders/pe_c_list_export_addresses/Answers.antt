@@ -1,9 +1,6 @@
 use Rattle.std.proofs.Common.{subst}
-use Rattle.calls_directories.specs.ExportAddresses.{exported_at}
-use Rattle.calls_base.specs.HandsOut.{result_number}
-use Rattle.calls_base.specs.Lists.{HandsOutList, Numbered, StepsByIndex}
+use Rattle.pe_c.proofs.Cited.{exported_at, result_number, HandsOutList, Numbered, StepsByIndex, View}
 use Rattle.calls_base.specs.Views.{map_of}
-use Rattle.calls_base.specs.declared.view.View.{View}
 use Rattle.pe_c.proofs.lists.forwarders.pe_c_list_export_addresses.Goals as goal
 
 -- the image is the same, whatever of it is read together

@@ -1,6 +1,5 @@
 use Rattle.std.proofs.Common.{◌-◌}
-use Rattle.pe_edit.specs.Levels.{alike}
-use Rattle.pe_edit.specs.Views.{leaf_views}
+use Rattle.pe_edit.proofs.Cited.{alike, leaf_views}
 use Rattle.pe_edit.proofs.Runs.{Counts}
 use Rattle.pe_edit.proofs.level.Level.first_run.Given as goal
 

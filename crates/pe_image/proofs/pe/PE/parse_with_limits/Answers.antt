@@ -1,3 +1,4 @@
+use Rattle.std.proofs.Common.{rules, arith}
 use Rattle.std.proofs.lemmas.Result.{err_from_is_err_and}
 use Rattle.pe_image.proofs.Images.{from_core}
 use Rattle.pe_image.proofs.Limited.{core_within, image_within, refused_within_unless}
@@ -6,16 +7,13 @@ use Rattle.pe_image.proofs.SectionsFirst.{sections_given}
 use Rattle.pe_image.proofs.pe.PE.parse_with_limits.Goals as goal
 
 pub returns-in_err-core-clause-image : goal.returns-in_err-core-clause-image
-returns-in_err-core-clause-image g c =
-    let p = err_from_is_err_and c.from_residual.result c.from_residual.ensures.1 in
-    rw (p.1, p.2) (refused_within_unless _ _ _ c.in_err-core.field-0.0 c.in_err-core.ensures.core.0, c.in_err-core.ensures.core.1)
+returns-in_err-core-clause-image g c = search (rules, arith, err_from_is_err_and, refused_within_unless)
 
-pub returns-clause-image : goal.returns-clause-image
-returns-clause-image g c =
-    image_within _ _ _ _ _ c.in_ok-core.ensures.core (from_core _ _ _ _ (core_within _ _ _ _ c.in_ok-core.ensures.core) c.with_core.ensures.image)
-
-pub returns-clause-sections : goal.returns-clause-sections
-returns-clause-sections g c = sections_given _ _ _ (from_core _ _ _ _ (core_within _ _ _ _ c.in_ok-core.ensures.core) c.with_core.ensures.image)
-
-pub returns-clause-memory : goal.returns-clause-memory
-returns-clause-memory g c = asks_for_certificates _ _ _ _ (core_within _ _ _ _ c.in_ok-core.ensures.core) c.with_core.ensures.memory
+pub returns : goal.returns
+returns g c = record {
+  image = image_within _ _ _ _ _ c.in_ok-core.ensures.core (from_core _ _ _ _ (core_within _ _ _ _ c.in_ok-core.ensures.core) c.with_core.ensures.image);
+  memory = asks_for_certificates _ _ _ _ (core_within _ _ _ _ c.in_ok-core.ensures.core) c.with_core.ensures.memory;
+  sections = sections_given _ _ _ (from_core _ _ _ _ (core_within _ _ _ _ c.in_ok-core.ensures.core) c.with_core.ensures.image);
+  libraries = search rules;
+  source = search rules;
+}

@@ -1,3 +1,4 @@
+use Rattle.std.proofs.Common.{rules, arith}
 use Rattle.std.proofs.lemmas.Result.{err_from_is_err_and}
 use Rattle.pe_image.proofs.Images.{core_refused_unless, from_core}
 use Rattle.pe_image.proofs.Requests.{asks_for_certificates}
@@ -5,9 +6,7 @@ use Rattle.pe_image.proofs.SectionsFirst.{sections_given}
 use Rattle.pe_image.proofs.pe.PE.parse_without_libraries.Goals as goal
 
 pub returns-in_err-core-clause-image : goal.returns-in_err-core-clause-image
-returns-in_err-core-clause-image g c =
-    let p = err_from_is_err_and c.from_residual.result c.from_residual.ensures.1 in
-    rw (p.1, p.2) (core_refused_unless _ _ c.in_err-core.field-0.0 c.in_err-core.ensures.core.0, c.in_err-core.ensures.core.1)
+returns-in_err-core-clause-image g c = search (rules, arith, err_from_is_err_and, core_refused_unless)
 
 pub returns-clause-image : goal.returns-clause-image
 returns-clause-image g c = from_core _ _ _ _ c.in_ok-core.ensures.core c.with_core.ensures.image

@@ -1,8 +1,5 @@
 use Rattle.std.proofs.Common.{rules, length}
-use Rattle.std.proofs.lemmas.Result.{err_from_is_err_and}
-use Rattle.pe_core.specs.Refusals.{kind_of}
-use Rattle.pe_image.specs.CertificateLists.{certificate_views}
-use Rattle.pe_image.specs.Pieces.{all_certificate_pieces, certificates_end}
+use Rattle.pe_image.proofs.Cited.{err_from_is_err_and, kind_of, certificate_views, all_certificate_pieces, certificates_end}
 use Rattle.pe_image.proofs.Ends.{certificates_reach, too_long}
 use Rattle.pe_image.proofs.write.certificates.require_table.Goals as goal
 

@@ -1,7 +1,4 @@
-use Rattle.std.proofs.lemmas.Result.{err_from_is_err_and}
-use Rattle.pe_core.specs.Refusals.{kind_of}
-use Rattle.pe_records.specs.Certificates.{certificate_view}
-use Rattle.pe_image.specs.CertificateLists.{certificate_views}
+use Rattle.pe_image.proofs.Cited.{err_from_is_err_and, kind_of, certificate_view, certificate_views}
 use Rattle.pe_image.proofs.Ends.{row_refused}
 use Rattle.pe_image.proofs.write.certificates.row_end.Goals as goal
 

@@ -1,7 +1,5 @@
 use Rattle.std.proofs.Common.{◌≡◌, drop}
-use Rattle.std.specs.Prelude.{not}
-use Rattle.std.specs.List.{list_all}
-use Rattle.pe_image.specs.Writing.{clash}
+use Rattle.pe_image.proofs.Cited.{not, list_all, clash}
 use Rattle.pe_image.proofs.write.overlaps.first_clash_with.Given as goal
 
 abbrev pub invariant-loop-i : goal.invariant-loop-i

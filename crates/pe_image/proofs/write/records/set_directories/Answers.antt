@@ -1,4 +1,4 @@
-use Rattle.std.proofs.Common.{arith}
+use Rattle.std.proofs.Common.{arith, rules}
 use Rattle.pe_core.specs.declared.data_directories.DataDirectory.{DataDirectory}
 use Rattle.pe_image.proofs.Laid.{rows_first, rows_next}
 use Rattle.pe_image.proofs.write.records.set_directories.Goals as goal
@@ -10,5 +10,4 @@ pub loop-i-init : goal.loop-i-init
 loop-i-init c = rows_first c.args.buffer.now c.args.offset c.args.rows.now (omega arith)
 
 pub loop-i-preserved : goal.loop-i-preserved
-loop-i-preserved c =
-    rows_next c.args.rows.now c.loop-i.i none (omega arith) c.loop-i.invariant c.set_directory.ensures
+loop-i-preserved c = search (rules, arith, rows_next)

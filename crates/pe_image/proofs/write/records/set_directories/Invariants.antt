@@ -1,6 +1,5 @@
 use Rattle.std.proofs.Common.{◌*◌, take}
-use Rattle.std.specs.List.{flat_map}
-use Rattle.pe_core.specs.Spelling.{spell_directory}
+use Rattle.pe_image.proofs.Cited.{flat_map, spell_directory}
 use Rattle.pe_image.proofs.Laid.{Laid}
 use Rattle.pe_image.proofs.write.records.set_directories.Given as goal
 

@@ -1,6 +1,5 @@
 use Rattle.std.proofs.Common.{◌≡◌, Ok, subst}
-use Rattle.pe_core.specs.Header.{HeaderView, header_at, header_view}
-use Rattle.pe_sign.specs.Attaching.{attached_of}
+use Rattle.pe_sign.proofs.Cited.{HeaderView, header_at, header_view, attached_of}
 use Rattle.pe_sign.proofs.DetachedAgain.{is_detached}
 use Rattle.pe_sign.proofs.WrittenHeaders.{same_ok}
 use Rattle.pe_sign.proofs.laws.calls.attached_is_detached.Goals as goal

@@ -1,5 +1,4 @@
-use Rattle.pe_core.specs.Header.{header_view}
-use Rattle.pe_sign.specs.Digest.{ranges_view}
+use Rattle.pe_sign.proofs.Cited.{header_view, ranges_view}
 use Rattle.pe_sign.proofs.WrittenHeaders.{attached_digest_parsed, attached_keeps}
 use Rattle.pe_sign.proofs.WrittenImages.{attached_from}
 use Rattle.pe_sign.proofs.laws.calls.digest_stays.Goals as goal

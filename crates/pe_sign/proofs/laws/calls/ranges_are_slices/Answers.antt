@@ -1,5 +1,4 @@
-use Rattle.pe_core.specs.Header.{header_view}
-use Rattle.pe_sign.specs.Digest.{ranges_view}
+use Rattle.pe_sign.proofs.Cited.{header_view, ranges_view}
 use Rattle.pe_sign.proofs.KeptRanges.{ranges_cover, ranges_end}
 use Rattle.pe_sign.proofs.laws.calls.ranges_are_slices.Goals as goal
 

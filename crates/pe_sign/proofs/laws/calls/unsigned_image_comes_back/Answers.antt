@@ -1,6 +1,5 @@
 use Rattle.std.proofs.Common.{◌≡◌, Ok, subst}
-use Rattle.pe_core.specs.Header.{HeaderView, header_at, header_view}
-use Rattle.pe_sign.specs.Attaching.{attached_of}
+use Rattle.pe_sign.proofs.Cited.{HeaderView, header_at, header_view, attached_of}
 use Rattle.pe_sign.proofs.UnsignedImages.{comes_back}
 use Rattle.pe_sign.proofs.WrittenHeaders.{same_ok}
 use Rattle.pe_sign.proofs.laws.calls.unsigned_image_comes_back.Goals as goal

@@ -1,12 +1,10 @@
-use Rattle.std.proofs.Common.{◌+◌, arith, refl}
-use Rattle.std.proofs.lemmas.Result.{err_from_is_err_and}
-use Rattle.pe_core.specs.Refusals.{kind_of}
+use Rattle.std.proofs.Common.{◌+◌, arith, refl, rules}
+use Rattle.pe_image.proofs.Cited.{err_from_is_err_and, kind_of}
 use Rattle.pe_image.proofs.TableLists.{all_counted, none_over, one_refused}
 use Rattle.pe_image.proofs.write.certificate_list.CertificateList.read.Goals as goal
 
 pub overflow_add-count : goal.overflow_add-count
-overflow_add-count c =
-    omega (arith, none_over c.args.bytes.now (c.args.address + c.args.size) c.args.address c.loop-offset.offset c.loop-offset.count c.loop-offset.invariant)
+overflow_add-count c = search (rules, arith, none_over)
 
 pub returns-in_err-parse : goal.returns-in_err-parse
 returns-in_err-parse c =

@@ -1,11 +1,8 @@
-use Rattle.std.proofs.Common.{rules, length}
-use Rattle.std.proofs.lemmas.Result.{err_from_is_err_and}
-use Rattle.pe_core.specs.Refusals.{kind_of}
-use Rattle.pe_image.specs.WritingSteps.{own_pieces}
+use Rattle.std.proofs.Common.{arith}
+use Rattle.std.proofs.lemmas.Grind.{common_steps}
+use Rattle.pe_image.proofs.Cited.{err_from_is_err_and}
 use Rattle.pe_image.proofs.Ends.{too_long}
 use Rattle.pe_image.proofs.write.image.ImageWriter.require_pieces.Goals as goal
 
 pub returns-in_err-needed : goal.returns-in_err-needed
-returns-in_err-needed c =
-    let p = err_from_is_err_and c.from_residual.result c.from_residual.ensures.1 in
-    rw (p.1, p.2) (too_long (length c.args.buffer.now) (own_pieces c.args.self.now c.args.optional.now c.args.unit) _ _ (kind_of c.in_err-needed.field-0.0) (search rules) c.in_err-needed.ensures)
+returns-in_err-needed c = grind (arith, common_steps, err_from_is_err_and, too_long)

@@ -1,7 +1,5 @@
 use Rattle.std.proofs.Common.{rules, length}
-use Rattle.std.proofs.lemmas.Result.{err_from_is_err_and}
-use Rattle.pe_core.specs.Refusals.{kind_of}
-use Rattle.pe_image.specs.WritingSteps.{own_whole}
+use Rattle.pe_image.proofs.Cited.{err_from_is_err_and, kind_of, own_whole}
 use Rattle.pe_image.proofs.Ends.{too_long}
 use Rattle.pe_image.proofs.write.image.ImageWriter.require_whole_pieces.Goals as goal
 

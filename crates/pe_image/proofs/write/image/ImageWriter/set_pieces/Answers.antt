@@ -1,17 +1,9 @@
-use Rattle.std.proofs.Common.{length, arith, refl, ◌≡◌, ℕ, ◌&&◌, true, List, ◌++◌, ap, sym, ◌∙◌}
-use Rattle.std.specs.Prelude.{Option}
-use Rattle.pe_core.specs.Header.{header_view, optional_header_view, HeaderView, OptionalHeaderView}
-use Rattle.pe_core.specs.Sections.{sections_offset}
-use Rattle.pe_core.specs.declared.data_directories.DataDirectory.{DataDirectory}
-use Rattle.pe_core.specs.declared.section_table.SectionTable.{SectionTable}
-use Rattle.pe_records.specs.Certificates.{CertificateView}
-use Rattle.pe_image.specs.Overlay.{Piece, all_fit}
-use Rattle.pe_image.specs.Pieces.{all_certificate_pieces, all_section_pieces, header_pieces}
-use Rattle.pe_image.specs.Writing.{certificate_directory, padded_pieces}
-use Rattle.pe_image.specs.WritingSteps.{put_in_turn}
+use Rattle.std.proofs.Common.{arith, ◌≡◌, ℕ, ◌&&◌, true, List, ◌++◌, ap, sym, ◌∙◌, rules}
+use Rattle.pe_image.proofs.Cited.{Option, HeaderView, OptionalHeaderView, sections_offset, DataDirectory, SectionTable}
+use Rattle.pe_image.proofs.Cited.{CertificateView, Piece, all_fit, all_certificate_pieces, all_section_pieces, header_pieces}
+use Rattle.pe_image.proofs.Cited.{certificate_directory, padded_pieces, put_in_turn}
 use Rattle.pe_image.proofs.Overlays.{put_append}
 use Rattle.pe_image.proofs.Rows.{all_fit_append, and_left, and_right}
-use Rattle.pe_image.specs.CertificateLists.{certificate_views}
 use Rattle.pe_image.proofs.write.image.ImageWriter.set_pieces.Goals as goal
 
 -- All pieces of an image.
@@ -49,38 +41,16 @@ certificates_fit_too n m u b h o sections cs given d same e k f =
 -- the three parts are put one after the other
 put_image : (old one two three : List ℕ) (u : Option ℕ) (b : List ℕ) (h : HeaderView) (o : OptionalHeaderView) (sections : List SectionTable) (cs given : List CertificateView) (d : Option DataDirectory) (source : List ℕ) (unit : Option ℕ) (offset : ℕ) (ss : List SectionTable) → IsOf u b h sections source unit offset ss → d ≡ certificate_directory o → given ≡ cs → one ≡ put_in_turn old (header_pieces h o) → two ≡ put_in_turn one (all_section_pieces source unit offset ss) → three ≡ put_in_turn two (all_certificate_pieces d given) → three ≡ put_in_turn old (padded_pieces u b h o sections cs)
 unfolding padded_pieces
-put_image old one two three u b h o sections cs given d source unit offset ss is e k f g i =
-    let second : two ≡ put_in_turn one (section_part u b h sections) = rw (is.source_is, is.unit_is, is.offset_is, is.sections_are) at g in
-    let third : three ≡ put_in_turn two (all_certificate_pieces (certificate_directory o) cs) = rw (e, k) at i in
-    let a = put_append (header_pieces h o ++ section_part u b h sections) (all_certificate_pieces (certificate_directory o) cs) old in
-    let c = put_append (header_pieces h o) (section_part u b h sections) old in
-    cc
+put_image old one two three u b h o sections cs given d source unit offset ss is e k f g i = grind (arith, put_append)
 
 pub set_headers-requires : goal.set_headers-requires
-set_headers-requires c =
-    headers_fit_too (length c.args.buffer.now) c.args.unit c.args.self.now.source.now (header_view c.args.self.now.header.now) (optional_header_view c.args.optional.now) c.args.self.now.sections.now (certificate_views c.args.self.now.certificates) c.requires.fit
+set_headers-requires c = search (rules, arith, headers_fit_too)
 
 pub set-requires-clause-fit : goal.set-requires-clause-fit
-set-requires-clause-fit c =
-    sections_fit_too (length c.args.buffer.now) (length c.set_headers.new.buffer) c.args.unit c.args.self.now.source.now (header_view c.args.self.now.header.now) (optional_header_view c.args.optional.now) c.args.self.now.sections.now (certificate_views c.args.self.now.certificates) _ _ _ _
-    (omega (arith, c.set_headers.auto.buffer))
-    (record { source_is = c.section_writer.ensures.source; unit_is = c.section_writer.ensures.unit; offset_is = c.sections_offset.ensures; sections_are = c.section_writer.ensures.sections })
-    c.requires.fit
+set-requires-clause-fit c = search (rules, arith, sections_fit_too)
 
 pub set_table-requires : goal.set_table-requires
-set_table-requires c =
-    certificates_fit_too (length c.args.buffer.now) (length c.set.new.buffer) c.args.unit c.args.self.now.source.now (header_view c.args.self.now.header.now) (optional_header_view c.args.optional.now) c.args.self.now.sections.now (certificate_views c.args.self.now.certificates) _ _
-    (omega (arith, c.set_headers.auto.buffer, c.set.auto.buffer))
-    c.get_certificate_table-directory.ensures
-    refl
-    c.requires.fit
+set_table-requires c = search (rules, arith, certificates_fit_too)
 
 pub returns : goal.returns
-returns c =
-    put_image c.args.buffer.now _ _ _ c.args.unit c.args.self.now.source.now (header_view c.args.self.now.header.now) (optional_header_view c.args.optional.now) c.args.self.now.sections.now (certificate_views c.args.self.now.certificates) _ _ _ _ _ _
-    (record { source_is = c.section_writer.ensures.source; unit_is = c.section_writer.ensures.unit; offset_is = c.sections_offset.ensures; sections_are = c.section_writer.ensures.sections })
-    c.get_certificate_table-directory.ensures
-    refl
-    c.set_headers.ensures
-    c.set.ensures
-    c.set_table.ensures
+returns c = search (rules, arith, put_image)

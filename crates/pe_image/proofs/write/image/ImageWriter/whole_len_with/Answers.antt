@@ -1,6 +1,4 @@
-use Rattle.std.proofs.lemmas.Result.{err_from_is_err_and}
-use Rattle.pe_core.specs.Refusals.{kind_of}
-use Rattle.pe_image.specs.WritingSteps.{own_whole}
+use Rattle.pe_image.proofs.Cited.{err_from_is_err_and, kind_of, own_whole}
 use Rattle.pe_image.proofs.Ends.{whole_too_long}
 use Rattle.pe_image.proofs.write.image.ImageWriter.whole_len_with.Goals as goal
 

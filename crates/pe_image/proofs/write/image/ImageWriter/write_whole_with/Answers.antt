@@ -1,40 +1,11 @@
-use Rattle.std.proofs.Common.{ℕ, Bool, List, ◌∙◌, length, refl}
-use Rattle.std.specs.Prelude.{max}
-use Rattle.std.proofs.lemmas.Result.{err_from_is_err_and}
-use Rattle.pe_core.specs.Header.{HeaderView, OptionalHeaderView, header_view, optional_header_view}
-use Rattle.pe_core.specs.Refusals.{Refusal, kind_of}
-use Rattle.pe_core.specs.declared.section_table.SectionTable.{SectionTable}
-use Rattle.pe_records.specs.Certificates.{CertificateView}
-use Rattle.pe_image.specs.CertificateLists.{certificate_views}
-use Rattle.pe_image.specs.Overlay.{Piece, overlay}
-use Rattle.pe_image.specs.Writing.{image_end, section_tests, whole_pieces}
+use Rattle.std.proofs.Common.{rules, arith}
+use Rattle.pe_image.proofs.Cited.{err_from_is_err_and}
 use Rattle.pe_image.proofs.Overlays.{overlay_in_turn}
 use Rattle.pe_image.proofs.Rows.{refused_too, written_too}
 use Rattle.pe_image.proofs.write.image.ImageWriter.write_whole_with.Goals as goal
 
 pub returns-in_err-end : goal.returns-in_err-end
-returns-in_err-end c =
-    let old : List ℕ = c.args.buffer.now in
-    let b : List ℕ = c.args.self.now.source.now in
-    let h : HeaderView = header_view c.args.self.now.header.now in
-    let o : OptionalHeaderView = optional_header_view c.args.optional.now in
-    let sections : List SectionTable = c.args.self.now.sections.now in
-    let cs : List CertificateView = certificate_views c.args.self.now.certificates in
-    let pieces : List Piece = whole_pieces b h o sections cs in
-    let tests : List (Bool × Refusal) = section_tests b sections (length old) pieces in
-    let end : ℕ = max (length b) (image_end h o sections cs) in
-    let p = err_from_is_err_and c.from_residual.result c.from_residual.ensures.1 in
-    rw (p.1, p.2) (refused_too {Y = ℕ × List ℕ} tests end (end, overlay old pieces) (kind_of c.in_err-end.field-0.0) c.in_err-end.ensures.returned, refl)
+returns-in_err-end c = search (rules, arith, err_from_is_err_and, refused_too)
 
 pub returns : goal.returns
-returns c =
-    let old : List ℕ = c.args.buffer.now in
-    let b : List ℕ = c.args.self.now.source.now in
-    let h : HeaderView = header_view c.args.self.now.header.now in
-    let o : OptionalHeaderView = optional_header_view c.args.optional.now in
-    let sections : List SectionTable = c.args.self.now.sections.now in
-    let cs : List CertificateView = certificate_views c.args.self.now.certificates in
-    let pieces : List Piece = whole_pieces b h o sections cs in
-    let tests : List (Bool × Refusal) = section_tests b sections (length old) pieces in
-    let end : ℕ = max (length b) (image_end h o sections cs) in
-    written_too tests end _ (overlay old pieces) _ c.in_ok-end.ensures.returned (c.set_whole.ensures ∙ overlay_in_turn pieces old c.in_ok-end.ensures.fit)
+returns c = search (rules, arith, written_too, overlay_in_turn)

@@ -1,12 +1,7 @@
-use Rattle.std.proofs.Common.{ℕ, Bool, List, ◌∙◌, length, refl}
-use Rattle.std.proofs.lemmas.Result.{err_from_is_err_and}
-use Rattle.pe_core.specs.Header.{HeaderView, OptionalHeaderView, header_view, optional_header_view}
-use Rattle.pe_core.specs.Refusals.{Refusal, kind_of}
-use Rattle.pe_core.specs.declared.section_table.SectionTable.{SectionTable}
-use Rattle.pe_records.specs.Certificates.{CertificateView}
-use Rattle.pe_image.specs.CertificateLists.{certificate_views}
-use Rattle.pe_image.specs.Overlay.{Piece, overlay}
-use Rattle.pe_image.specs.Writing.{image_end, image_pieces, image_tests}
+use Rattle.std.proofs.Common.{ℕ, Bool, List, length, refl, rules, arith}
+use Rattle.pe_image.proofs.Cited.{err_from_is_err_and, HeaderView, OptionalHeaderView, header_view, optional_header_view, Refusal}
+use Rattle.pe_image.proofs.Cited.{kind_of, SectionTable, CertificateView, certificate_views, Piece, overlay, image_end}
+use Rattle.pe_image.proofs.Cited.{image_pieces, image_tests}
 use Rattle.pe_image.proofs.Overlays.{overlay_in_turn}
 use Rattle.pe_image.proofs.Rows.{refused_too, written_too}
 use Rattle.pe_image.proofs.write.image.ImageWriter.write_with.Goals as goal
@@ -25,13 +20,4 @@ returns-in_err-end c =
     rw (p.1, p.2) (refused_too {Y = ℕ × List ℕ} tests (image_end h o sections cs) (image_end h o sections cs, overlay old pieces) (kind_of c.in_err-end.field-0.0) c.in_err-end.ensures.returned, refl)
 
 pub returns : goal.returns
-returns c =
-    let old : List ℕ = c.args.buffer.now in
-    let b : List ℕ = c.args.self.now.source.now in
-    let h : HeaderView = header_view c.args.self.now.header.now in
-    let o : OptionalHeaderView = optional_header_view c.args.optional.now in
-    let sections : List SectionTable = c.args.self.now.sections.now in
-    let cs : List CertificateView = certificate_views c.args.self.now.certificates in
-    let pieces : List Piece = image_pieces b h o sections cs in
-    let tests : List (Bool × Refusal) = image_tests b h o sections (length old) pieces in
-    written_too tests (image_end h o sections cs) _ (overlay old pieces) _ c.in_ok-end.ensures.returned (c.set_pieces.ensures ∙ overlay_in_turn pieces old c.in_ok-end.ensures.fit)
+returns c = search (rules, arith, written_too, overlay_in_turn)

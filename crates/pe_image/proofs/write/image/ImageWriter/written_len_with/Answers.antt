@@ -1,8 +1,4 @@
-use Rattle.std.specs.Prelude.{Some}
-use Rattle.std.proofs.lemmas.Result.{err_from_is_err_and}
-use Rattle.pe_core.specs.Header.{header_view, optional_header_view}
-use Rattle.pe_core.specs.Refusals.{kind_of}
-use Rattle.pe_image.specs.WritingSteps.{own_pieces}
+use Rattle.pe_image.proofs.Cited.{Some, err_from_is_err_and, header_view, optional_header_view, kind_of, own_pieces}
 use Rattle.pe_image.proofs.Ends.{image_too_long}
 use Rattle.pe_image.proofs.write.image.ImageWriter.written_len_with.Goals as goal
 
