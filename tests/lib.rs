@@ -17,6 +17,7 @@ mod damaged_images;
 mod debug;
 mod directories;
 mod directory_lists;
+mod errors;
 mod exports;
 mod frames;
 mod headers;

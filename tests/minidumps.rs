@@ -1,6 +1,7 @@
 //! Minidumps. What is said to be Wine's are bytes of a dump that its dbghelp (8.0) wrote of a program that crashed, and what
 //! obj2yaml 14.0.6 prints of them; all others are made by hand from minidumpapiset.h and winnt.h.
 
+use crate::errors::refused;
 use crate::images::image;
 use pe_minidump::{
     AddressIndex, AddressRange, ContextArm64, ContextX64, Dump, DumpError, Location,
@@ -54,14 +55,6 @@ fn short(needed: usize, length: usize) -> DumpError {
 
 fn directory(rva: u32, count: u32, length: usize) -> DumpError {
     DumpError::Directory { rva, count, length }
-}
-
-/// Whether a call was refused for this.
-fn refused<T: Drop>(returned: pe_minidump::Result<T>, error: DumpError) -> bool {
-    match returned {
-        Ok(_) => false,
-        Err(own) => own == error,
-    }
 }
 
 /// The header and the directory of a dump of Wine.

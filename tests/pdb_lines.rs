@@ -2,10 +2,11 @@
 //! llvm-pdbutil 14.0.6 prints of them (`dump -l -il -symbols -string-table -section-contribs`), and of the same streams in other
 //! blocks. Records that no such file has are made by hand from LLVM's pages and cvinfo.h.
 
+use crate::errors::refused;
 use crate::images::{image, put, with_byte};
 use crate::pdb_inlined_bytes;
 use crate::pdb_symbols::lines_of;
-use crate::pdbs::{all_of, pdb, record_truncated, refused, short};
+use crate::pdbs::{all_of, pdb, record_truncated, short};
 use pe_core::RangeEntry;
 use pe_pdb::{
     CodeLine, Contribution, DBI_STREAM, DEBUG_S_FILECHKSMS, DEBUG_S_INLINEELINES, Dbi,
@@ -270,7 +271,6 @@ fn contributions_are_those_that_pdbutil_lists(rt: HostRuntime) -> Result<(), Fai
     let found = (index.module_at(0x1018), index.module_at(0x101C));
     assert_eq!(rt; found, (Some(6), None));
     assert_eq!(rt; SectionContributions::parse(&[])?.len(), 0);
-    // shows: pe_pdb/src/contribution.rt parse Short
     assert!(rt; refused(SectionContributions::parse(&part[..3]), short(4, 3)));
     // shows: pe_pdb/src/contribution.rt parse ContributionsVersion
     let other = with_byte(wide, 0, 0xE5);
@@ -349,13 +349,9 @@ fn inlined_functions_are_where_pdbutil_says(rt: HostRuntime) -> Result<(), Fail>
         Err(_) => None,
     };
     assert_eq!(rt; (line(5), line(6)), (Some(7), Some(9)));
-    // shows: pe_pdb/src/inlinee.rt record_end RecordTruncated
     assert!(rt; refused(InlineeLine::find(&other, 8), record_truncated(40, 20, 56)));
-    // shows: pe_pdb/src/inlinee.rt record_end Short
     assert!(rt; refused(InlineeLine::find(&other[..19], 8), short(4, 3)));
-    // shows: pe_pdb/src/inlinee.rt find Short
     assert!(rt; refused(InlineeLine::find(&other[..3], 8), short(4, 3)));
-    // shows: pe_pdb/src/inlinee.rt record_end Short
     assert!(rt; refused(InlineeLine::find(&other[..15], 5), short(12, 11)));
     Ok(())
 }
@@ -394,7 +390,6 @@ fn annotations_are_those_of_cvinfo(rt: HostRuntime) -> Result<(), Fail> {
     ] {
         assert!(rt; refused(InlineRows::row_at(bytes, 0), PdbError::Annotation(offset)));
     }
-    // shows: pe_pdb/src/inline_site.rt parse Short
     let found = InlineSite::parse(S_INLINESITE2, &bytes[..15]);
     assert!(rt; refused(found, short(16, 15)));
     let found = InlineSite::parse(S_INLINESITE2, &bytes[..17])?
@@ -409,27 +404,19 @@ fn damaged_names_and_files_are_refused(rt: HostRuntime) -> Result<(), Fail> {
     let bytes = inlined(rt.alloc())?;
     let msf = Msf::parse(&bytes)?;
     let stream = all_of(rt.alloc(), &msf, 13)?;
-    // shows: pe_pdb/src/names.rt parse Short
     assert!(rt; refused(Names::parse(&stream[..11]), short(12, 11)));
     // shows: pe_pdb/src/names.rt parse NamesSignature
     let other = with_byte(stream.clone()?, 3, 0xEE);
     assert!(rt; refused(Names::parse(&other), PdbError::NamesSignature(0xEEFE_EFFE)));
-    // shows: pe_pdb/src/names.rt parse RecordTruncated
     assert!(rt; refused(Names::parse(&stream[..21]), record_truncated(12, 10, 21)));
     let info = all_of(rt.alloc(), &msf, INFO_STREAM)?;
-    // shows: pe_pdb/src/names.rt stream_texts Short
     assert!(rt; refused(named_stream(&info[..31], NAMES_STREAM), short(32, 31)));
-    // shows: pe_pdb/src/names.rt stream_texts RecordTruncated
     let found = named_stream(&info[..48], NAMES_STREAM);
     assert!(rt; refused(found, record_truncated(32, 17, 48)));
-    // shows: pe_pdb/src/names.rt pairs_start RecordTruncated
     let found = named_stream(&info[..84], NAMES_STREAM);
     assert!(rt; refused(found, record_truncated(69, 16, 84)));
-    // shows: pe_pdb/src/names.rt pairs_start Short
     assert!(rt; refused(named_stream(&info[..56], NAMES_STREAM), short(8, 7)));
-    // shows: pe_pdb/src/names.rt words_end Short
     assert!(rt; refused(named_stream(&info[..60], NAMES_STREAM), short(4, 3)));
-    // shows: pe_pdb/src/names.rt words_end RecordTruncated
     let many = with_byte(info, 59, 0xFF);
     let found = named_stream(&many, NAMES_STREAM);
     assert!(rt; refused(found, record_truncated(61, 4 * 0x00FF_0001, 93)));
@@ -443,9 +430,7 @@ fn damaged_names_and_files_are_refused(rt: HostRuntime) -> Result<(), Fail> {
         let file = FileChecksum::parse(content, 24)?;
         assert_eq!(rt; (file.name_offset, file.kind, file.hash.len()), (6, 1, 16));
         assert_eq!(rt; (file.hash[0], file.hash[15]), (0xB8, 0x26));
-        // shows: pe_pdb/src/checksum.rt parse Short
         assert!(rt; refused(FileChecksum::parse(&content[..29], 24), short(6, 5)));
-        // shows: pe_pdb/src/checksum.rt parse RecordTruncated
         let found = FileChecksum::parse(&content[..45], 24);
         assert!(rt; refused(found, record_truncated(24, 22, 45)));
     }
@@ -503,15 +488,12 @@ fn ids_are_those_that_pdbutil_lists(rt: HostRuntime) -> Result<(), Fail> {
     let found = TypeRecords::parse(&more)?.put_starts(&mut room);
     assert!(rt; refused(found, short(4, 0)));
     assert!(rt; refused(TypeRecords::parse(&more)?.count(), short(4, 0)));
-    // shows: pe_pdb/src/ids.rt parse Short
     assert!(rt; refused(TypeRecords::parse(&stream[..55]), short(56, 55)));
-    // shows: pe_pdb/src/ids.rt parse RecordTruncated
     let wanted = record_truncated(56, stream.len() - 56, stream.len() - 1);
     assert!(rt; refused(TypeRecords::parse(&stream[..stream.len() - 1]), wanted));
     assert!(rt; refused(FunctionId::parse(&twice[..7]), short(8, 7)));
     // shows: pe_pdb/src/ids.rt parse Name
     assert!(rt; refused(FunctionId::parse(&twice[..13]), PdbError::Name(8)));
-    // shows: pe_pdb/src/ids.rt string_id Short
     assert!(rt; refused(string_id(&twice[..3]), short(4, 3)));
     // shows: pe_pdb/src/ids.rt string_id Name
     assert!(rt; refused(string_id(&twice[8..13]), PdbError::Name(4)));

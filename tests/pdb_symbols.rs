@@ -2,8 +2,9 @@
 //! (`dump -summary -section-headers -modules -publics -symbols -l`, `pdb2yaml -pdb-stream -dbi-stream`), and the same of the file with
 //! scattered streams. Records that are damaged are made by hand from LLVM's pages.
 
+use crate::errors::refused;
 use crate::images::{put, with_byte};
-use crate::pdbs::{all_of, pdb, record_truncated, refused, short};
+use crate::pdbs::{all_of, pdb, record_truncated, short};
 use pe_pdb::{
     DBI_STREAM, Dbi, FIRST_SYMBOL, INFO_STREAM, LineBlock, LineHeader, Module, Modules, Msf,
     PdbError, PdbInfo, ProcedureSymbol, PublicSymbol, SectionHeaders, Subsection, SymbolClass,
@@ -71,13 +72,11 @@ fn damaged_heads_are_refused(rt: HostRuntime) -> Result<(), Fail> {
     let bytes = pdb(rt.alloc())?;
     let msf = Msf::parse(&bytes)?;
     let info = all_of(rt.alloc(), &msf, INFO_STREAM)?;
-    // shows: pe_pdb/src/info.rt parse Short
     assert!(rt; refused(PdbInfo::parse(&info[..27]), short(28, 27)));
     // shows: pe_pdb/src/info.rt parse InfoVersion
     let older = with_byte(info.clone()?, 0, 0x95);
     assert!(rt; refused(PdbInfo::parse(&older), PdbError::InfoVersion(20000405)));
     let stream = all_of(rt.alloc(), &msf, DBI_STREAM)?;
-    // shows: pe_pdb/src/dbi.rt parse Short
     assert!(rt; refused(Dbi::parse(&stream[..63]), short(64, 63)));
     // shows: pe_pdb/src/dbi.rt parse DbiSignature
     let other = with_byte(stream.clone()?, 0, 0xFE);
@@ -107,7 +106,6 @@ fn damaged_records_are_refused(rt: HostRuntime) -> Result<(), Fail> {
     let bytes = pdb(rt.alloc())?;
     let msf = Msf::parse(&bytes)?;
     let symbols = all_of(rt.alloc(), &msf, 8)?;
-    // shows: pe_pdb/src/symbol.rt parse Short
     assert!(rt; refused(SymbolRecord::parse(&symbols, 105), short(4, 3)));
     assert!(rt; refused(SymbolRecord::parse(&symbols, 109), short(4, 0)));
     // shows: pe_pdb/src/symbol.rt parse RecordSize
@@ -118,7 +116,7 @@ fn damaged_records_are_refused(rt: HostRuntime) -> Result<(), Fail> {
         size: 1,
     };
     assert!(rt; refused(SymbolRecord::parse(&small, 20), size));
-    // shows: pe_pdb/src/symbol.rt parse RecordTruncated
+    // shows: pe_pdb/src/error.rt require_record RecordTruncated
     let found = SymbolRecord::parse(&symbols[..43], 20);
     assert!(rt; refused(found, record_truncated(20, 24, 43)));
     let mut walk = SymbolRecords::new(&symbols[..43], 0);
@@ -126,13 +124,11 @@ fn damaged_records_are_refused(rt: HostRuntime) -> Result<(), Fail> {
     assert!(rt; matches!(walk.next(), Some(Err(_))));
     assert!(rt; walk.next().is_none());
     let content = &symbols[4..20];
-    // shows: pe_pdb/src/public.rt parse Short
     assert!(rt; refused(PublicSymbol::parse(&content[..9]), short(10, 9)));
     // shows: pe_pdb/src/public.rt parse Name
     assert!(rt; refused(PublicSymbol::parse(&content[..15]), PdbError::Name(10)));
     let module = all_of(rt.alloc(), &msf, 12)?;
     let content = SymbolRecord::parse(&module, 212)?.content;
-    // shows: pe_pdb/src/procedure.rt parse Short
     assert!(rt; refused(ProcedureSymbol::parse(&content[..34]), short(35, 34)));
     // shows: pe_pdb/src/procedure.rt parse Name
     assert!(rt; refused(ProcedureSymbol::parse(&content[..40]), PdbError::Name(35)));
@@ -145,7 +141,6 @@ fn damaged_modules_are_refused(rt: HostRuntime) -> Result<(), Fail> {
     let msf = Msf::parse(&bytes)?;
     let stream = all_of(rt.alloc(), &msf, DBI_STREAM)?;
     let modules = Dbi::parse(&stream)?.modules;
-    // shows: pe_pdb/src/module.rt parse Short
     assert!(rt; refused(Module::parse(&modules[..63], 0), short(64, 63)));
     // shows: pe_pdb/src/module.rt name_at Name
     assert!(rt; refused(Module::parse(&modules[..69], 0), PdbError::Name(64)));
@@ -196,10 +191,8 @@ fn damaged_lines_are_refused(rt: HostRuntime) -> Result<(), Fail> {
     let dbi = all_of(rt.alloc(), &msf, DBI_STREAM)?;
     let header = Module::parse(Dbi::parse(&dbi)?.modules, 0)?.header;
     let stream = all_of(rt.alloc(), &msf, 11)?;
-    // shows: pe_pdb/src/line.rt line_bytes RecordTruncated
     let found = header.line_bytes(&stream[..300]);
     assert!(rt; refused(found, record_truncated(248, 112, 300)));
-    // shows: pe_pdb/src/line.rt parse Short
     assert!(rt; refused(Subsection::parse(&lines[..95], 88), short(8, 7)));
     // shows: pe_pdb/src/line.rt parse RecordTruncated
     let found = Subsection::parse(&lines[..135], 88);

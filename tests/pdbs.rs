@@ -1,6 +1,7 @@
 //! Program databases: one that lld-link wrote (`pdb_bytes`), by what llvm-pdbutil 14.0.6 prints of it; its streams again in smaller
 //! blocks, from the last block to the first; and files made by hand from LLVM's page on MSF files.
 
+use crate::errors::refused;
 use crate::images::{image, piece_at, put, range_at};
 use crate::pdb_bytes::{LENGTH, PIECES};
 use pe_pdb::{Msf, PdbError};
@@ -82,13 +83,6 @@ pub(crate) fn record_truncated(offset: usize, needed: usize, length: usize) -> P
     }
 }
 
-pub(crate) fn refused<T: Drop>(returned: pe_pdb::Result<T>, error: PdbError) -> bool {
-    match returned {
-        Ok(_) => false,
-        Err(own) => own == error,
-    }
-}
-
 #[test]
 fn scattered_streams_have_the_same_bytes(rt: HostRuntime) -> Result<(), Fail> {
     let bytes = pdb(rt.alloc())?;
@@ -146,7 +140,7 @@ fn a_directory_may_take_several_blocks_of_its_list(rt: HostRuntime) -> Result<()
 #[test]
 fn damaged_files_are_refused(rt: HostRuntime) -> Result<(), Fail> {
     let good = of_blocks(rt.alloc(), 6, 12)?;
-    // shows: pe_pdb/src/msf.rt parse Short
+    // shows: pe_pdb/src/error.rt require_bytes Short
     assert!(rt; refused(Msf::parse(&good[..55]), short(56, 55)));
     let older = image(
         rt.alloc(),

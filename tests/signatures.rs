@@ -1,6 +1,7 @@
 //! Signatures: one that osslsigncode made, field by field at the offsets that `openssl asn1parse` prints, elements that are
 //! refused, times, and what hostile elements cost.
 
+use crate::errors::refused;
 use crate::signature_bytes::signature;
 use pe_pkcs7::{
     Attribute, ContentInfo, Element, Elements, Extension, NameAttributes, SignatureError,
@@ -76,75 +77,69 @@ fn key_usages(rt: HostRuntime) -> Result<(), Fail> {
     Ok(())
 }
 
-/// What `ToBeSigned::parse` refuses in the certificate of the signature, where the octet at `offset` is another.
-fn refused_certificate(
+/// The certificate of the signature, where the octet at `offset` is another.
+fn certificate_with(
     mut bytes: Vec<u8>,
     offset: usize,
     octet: u8,
-) -> Result<SignatureError, Fail> {
+) -> std::result::Result<ToBeSigned, SignatureError> {
     bytes[offset] = octet;
-    match ToBeSigned::parse(&bytes, at(0x30, 174, 4, 256)) {
-        Ok(_) => Err(Fail::from("a certificate")),
-        Err(error) => Ok(error),
-    }
+    ToBeSigned::parse(&bytes, at(0x30, 174, 4, 256))
 }
 
 #[test]
 fn what_stands_in_version_and_extensions(rt: HostRuntime) -> Result<(), Fail> {
     let tag = tag_at(180, 2, 4);
-    assert_eq!(rt; refused_certificate(signature(rt.alloc())?, 180, 4)?, tag);
+    assert!(rt; refused(certificate_with(signature(rt.alloc())?, 180, 4), tag));
     let trailing = trailing_at(182, 1);
     // Without its octet, an INTEGER and an OCTET STRING.
-    let own = refused_certificate(signature(rt.alloc())?, 181, 0)?;
-    assert_eq!(rt; own, SignatureError::EmptyContent(180));
+    let found = certificate_with(signature(rt.alloc())?, 181, 0);
+    assert!(rt; refused(found, SignatureError::EmptyContent(180)));
     let mut bytes = signature(rt.alloc())?;
     bytes[180] = 4;
-    assert_eq!(rt; refused_certificate(bytes, 181, 0)?, trailing);
+    assert!(rt; refused(certificate_with(bytes, 181, 0), trailing));
     let tag = tag_at(395, 0x30, 0x31);
-    let found = refused_certificate(signature(rt.alloc())?, 395, 0x31)?;
-    assert_eq!(rt; found, tag);
+    let found = certificate_with(signature(rt.alloc())?, 395, 0x31);
+    assert!(rt; refused(found, tag));
     Ok(())
-}
-
-/// What `element_at` returns of the element at offset 3.
-fn refused(bytes: &[u8]) -> Result<SignatureError, Fail> {
-    match element_at(bytes, 3) {
-        Ok(_) => Err(Fail::from("an element")),
-        Err(error) => Ok(error),
-    }
 }
 
 #[test]
 fn refused_elements(rt: HostRuntime) -> Result<(), Fail> {
     let truncated = SignatureError::Truncated { offset: 3, left: 1 };
-    assert_eq!(rt; refused(b"\0\0\0\x04")?, truncated);
+    assert!(rt; refused(element_at(b"\0\0\0\x04", 3), truncated));
     let none = SignatureError::Truncated { offset: 3, left: 0 };
-    assert_eq!(rt; refused(b"")?, none);
-    assert_eq!(rt; refused(b"\0\0\0\x1F\x01\0")?, SignatureError::TagNumber(3));
-    let found = refused(b"\0\0\0\x30\x80\0\0")?;
-    assert_eq!(rt; found, SignatureError::IndefiniteLength(3));
+    assert!(rt; refused(element_at(b"", 3), none));
+    assert!(rt;
+        refused(
+            element_at(b"\0\0\0\x1F\x01\0", 3),
+            SignatureError::TagNumber(3)
+        )
+    );
+    let found = element_at(b"\0\0\0\x30\x80\0\0", 3);
+    assert!(rt; refused(found, SignatureError::IndefiniteLength(3)));
     // `openssl asn1parse` prints EOC.
     for tag in [0x00, 0x20] {
-        let end = refused(&[0, 0, 0, tag, 0, 5, 0])?;
-        assert_eq!(rt; end, SignatureError::EndOfContents(3));
+        let found = element_at(&[0, 0, 0, tag, 0, 5, 0], 3);
+        assert!(rt; refused(found, SignatureError::EndOfContents(3)));
     }
     // It prints BAD INTEGER, BAD OBJECT, BAD BOOLEAN, BAD ENUMERATED; `openssl pkey` refuses a key of such bits.
     for tag in [0x02, 0x06, 0x01, 0x0A, 0x03] {
-        let empty = refused(&[0, 0, 0, tag, 0, 5, 0])?;
-        assert_eq!(rt; empty, SignatureError::EmptyContent(3));
+        let found = element_at(&[0, 0, 0, tag, 0, 5, 0], 3);
+        assert!(rt; refused(found, SignatureError::EmptyContent(3)));
     }
     let long = length_octets(3, 8);
-    assert_eq!(rt; refused(b"\0\0\0\x04\x88\x80\0\0\0\0\0\0\0")?, long);
+    assert!(rt; refused(element_at(b"\0\0\0\x04\x88\x80\0\0\0\0\0\0\0", 3), long));
     let truncated = SignatureError::Truncated { offset: 3, left: 3 };
-    assert_eq!(rt; refused(b"\0\0\0\x04\x82\x01")?, truncated);
-    let found = refused(b"\0\0\0\x04\x81\x01\0")?;
-    assert_eq!(rt; found, SignatureError::LengthForm(3));
-    let found = refused(b"\0\0\0\x04\x82\0\x80")?;
-    assert_eq!(rt; found, SignatureError::LengthForm(3));
+    assert!(rt; refused(element_at(b"\0\0\0\x04\x82\x01", 3), truncated));
+    let found = element_at(b"\0\0\0\x04\x81\x01\0", 3);
+    assert!(rt; refused(found, SignatureError::LengthForm(3)));
+    let found = element_at(b"\0\0\0\x04\x82\0\x80", 3);
+    assert!(rt; refused(found, SignatureError::LengthForm(3)));
     let past = past_parent(3, 2, 1);
-    assert_eq!(rt; refused(b"\0\0\0\x04\x02\0")?, past);
+    assert!(rt; refused(element_at(b"\0\0\0\x04\x02\0", 3), past));
     let past = past_parent(3, 0x12345678, 2);
-    assert_eq!(rt; refused(b"\0\0\0\x04\x84\x12\x34\x56\x78\0\0")?, past);
+    assert!(rt; refused(element_at(b"\0\0\0\x04\x84\x12\x34\x56\x78\0\0", 3), past));
     Ok(())
 }
 
@@ -173,23 +168,23 @@ fn refused_fields(rt: HostRuntime) -> Result<(), Fail> {
     let whole = |bytes: &[u8]| element_at(bytes, 0);
     // A SEQUENCE with a SEQUENCE that is empty, with an INTEGER in place of the value, with a NULL after the value.
     let missing = b"\x30\x05\x06\x03\x55\x04\x03";
-    let result = Attribute::parse(missing, whole(missing)?);
-    assert_eq!(rt; result.err(), Some(SignatureError::Missing(7)));
+    let found = Attribute::parse(missing, whole(missing)?);
+    assert!(rt; refused(found, SignatureError::Missing(7)));
     let other = b"\x30\x08\x06\x03\x55\x04\x03\x02\x01\x05";
     let tag = tag_at(7, 0x31, 2);
-    assert_eq!(rt; Attribute::parse(other, whole(other)?).err(), Some(tag));
+    assert!(rt; refused(Attribute::parse(other, whole(other)?), tag));
     let more = b"\x30\x09\x06\x03\x55\x04\x03\x31\x00\x05\x00";
     let trailing = trailing_at(9, 2);
-    assert_eq!(rt; Attribute::parse(more, whole(more)?).err(), Some(trailing));
+    assert!(rt; refused(Attribute::parse(more, whole(more)?), trailing));
     // id-data, 1.2.840.113549.1.7.1.
     let data = b"\x30\x0F\x06\x09\x2A\x86\x48\x86\xF7\x0D\x01\x07\x01\xA0\x02\x05\x00";
     let info = ContentInfo::parse(data)?;
     let found = SignedData::parse(data, &info);
-    assert_eq!(rt; found.err(), Some(SignatureError::ContentType(2)));
+    assert!(rt; refused(found, SignatureError::ContentType(2)));
     // The parent of the attribute ends before its value does.
     let past = b"\x30\x07\x06\x03\x55\x04\x03\x31\x02\x05\x00";
     let error = past_parent(7, 2, 0);
-    assert_eq!(rt; Attribute::parse(past, whole(past)?).err(), Some(error));
+    assert!(rt; refused(Attribute::parse(past, whole(past)?), error));
     Ok(())
 }
 
@@ -284,7 +279,7 @@ fn times(rt: HostRuntime) -> Result<(), Fail> {
         (b" 491231235959Z", 0x0C),
         (b" ", 0x17),
     ] {
-        assert_eq!(rt; time(text, tag).err(), Some(SignatureError::BadTime(0)));
+        assert!(rt; refused(time(text, tag), SignatureError::BadTime(0)));
     }
     Ok(())
 }

@@ -27,14 +27,6 @@ module _ {W F : Type 0} (Calls : Process → F → Result F WalkEnd → Type 0) 
   pub same_remaining : (w : W) (v : FrameWalk Process F) → v ≡ at w → m.remaining w ≡ v.remaining
   same_remaining w v e = sym (ap (λ (x : FrameWalk Process F). x.remaining) e)
 
-  none_by : (n : ℕ) (w : W) → n ≡ 0 → HandsOutBy Calls m n p 100 w w
-  none_by zero w none = (refl, refl)
-  none_by (suc n) w none = absurd (omega (arith, none))
-
-  -- once the walk is over, nothing changes
-  pub none_left : (w : W) → m.remaining w ≡ 0 → HandsOutNext Calls m p 100 w w
-  none_left w none = none_by (m.remaining w) w none
-
   -- ---- a frame
 
   done_with : (old next : W) (s : F) (found : Result F WalkEnd) → Follows Calls (at old) found → Some s ≡ returned_frame found → next ≡ m.after_frame old s → m.frame next ≡ s → HandsOut 0 old next
@@ -66,22 +58,6 @@ module _ {W F : Type 0} (Calls : Process → F → Result F WalkEnd → Type 0) 
   pub same_position : (old next : W) (s : F) (w new : FrameWalk Process F) → w ≡ at old → 0 < m.remaining old → Advances Calls w (Some s) new → at next ≡ walk_after (at old) (Ok s) → new ≡ at next
   same_position old next s w new start some h is =
       same_by (m.remaining old) old next s new some (subst (λ (v : FrameWalk Process F). Advances Calls v (Some s) new) start h) is
-
-  -- ---- the end
-
-  over_with : (old next : W) (new : FrameWalk Process F) (found : Result F WalkEnd) → Follows Calls (at old) found → None ≡ returned_frame found → new ≡ walk_after (at old) found → next ≡ m.after_end old new.end → HandsOut 100 old next
-  over_with old next new (Ok x) follows answer after is = absurd (cc answer)
-  over_with old next new (Err e) follows answer after is =
-      let this : new.end ≡ e = ap (λ (w : FrameWalk Process F). w.end) after in
-      (Err e, follows, (refl, is ∙ ap (m.after_end old) this))
-
-  over_by : (n : ℕ) (old next : W) (new : FrameWalk Process F) → 0 < n → AdvancesBy Calls n (at old) None new → next ≡ m.after_end old new.end → HandsOutBy Calls m n p 100 old next
-  over_by zero old next new some h is = absurd (omega (arith, some))
-  over_by (suc n) old next new some h is = over_with old next new h.0 h.1 h.2 h.3 is
-
-  pub over : (old next : W) (w new : FrameWalk Process F) → w ≡ at old → 0 < m.remaining old → Advances Calls w None new → next ≡ m.after_end old new.end → HandsOutNext Calls m p 100 old next
-  over old next w new start some h is =
-      over_by (m.remaining old) old next new some (subst (λ (v : FrameWalk Process F). Advances Calls v None new) start h) is
 
   -- ---- several frames
 

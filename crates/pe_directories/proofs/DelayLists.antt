@@ -1,5 +1,5 @@
 -- Delay imports as lists: the steps of their walks, and the names of what is left.
-use Rattle.std.proofs.Common.{◌≡◌, ℕ, suc, ◌+◌, ◌<◌, List, [], ◌∷◌, ◌++◌, map, length, get_or, drop, Option, Some, None, Result, Ok, ap, sym, ◌∙◌, arith, length-drop, append_assoc}
+use Rattle.std.proofs.Common.{◌≡◌, ℕ, suc, ◌+◌, ◌<◌, ◌≤◌, List, [], ◌∷◌, ◌++◌, map, length, get_or, drop, Option, Some, None, Result, Ok, refl, ap, sym, ◌∙◌, arith, length-drop, append_assoc}
 use Rattle.std.specs.Borrow.{Bor}
 use Rattle.std.specs.Option.{option_map}
 use Rattle.std.proofs.Math.Seq.{drop-cons}
@@ -61,7 +61,7 @@ all_offsets offset all done left so_far is =
 pub record NamesLeft {X : Type 0} (b : List ℕ) (offset : X → ℕ) (left : List (Result X DirectoryRefusal)) (names : List (Option (Bor (List ℕ)))) (i : ℕ) : Type 0 where
   pub are : AreItemNames b offset left (drop i names)
 
-pub names_below : {X : Type 0} (b : List ℕ) (offset : X → ℕ) (left more : List (Result X DirectoryRefusal)) (names : List (Option (Bor (List ℕ)))) (i : ℕ) (item : Result X DirectoryRefusal)
+names_below : {X : Type 0} (b : List ℕ) (offset : X → ℕ) (left more : List (Result X DirectoryRefusal)) (names : List (Option (Bor (List ℕ)))) (i : ℕ) (item : Result X DirectoryRefusal)
     → NamesLeft b offset left names i → left ≡ item ∷ more → i < length names
 names_below b offset left more names i item n is =
     omega (
@@ -73,6 +73,11 @@ names_below b offset left more names i item n is =
       length-map left (item_offset offset),
       ap length is,
     )
+
+-- after the last name no item is left
+pub names_over : {X : Type 0} (b : List ℕ) (offset : X → ℕ) (left : List (Result X DirectoryRefusal)) (names : List (Option (Bor (List ℕ)))) (i : ℕ) → NamesLeft b offset left names i → length names ≤ i → left ≡ []
+names_over b offset [] names i n over = refl
+names_over b offset (item ∷ left) names i n over = absurd (let below = names_below b offset (item ∷ left) left names i item n refl in omega (arith, below, over))
 
 cut : (names : List (Option (Bor (List ℕ)))) (i : ℕ) (d : Option (Bor (List ℕ))) → i < length names → drop i names ≡ get_or names i d ∷ drop (i + 1) names
 cut names i d lt = let after : suc i ≡ i + 1 = omega arith in drop-cons names i d lt ∙ ap (λ k. get_or names i d ∷ drop k names) after

@@ -1,9 +1,7 @@
 -- Images as a loader lays them out, run by run.
-use Rattle.std.proofs.Common.{◌≡◌, ℕ, zero, suc, ◌+◌, ◌-◌, ◌<◌, ◌≤◌, ◌^◌, ◌&&◌, min, Bool, true, false, List, [], ◌∷◌, ◌++◌, length, take, drop, get_or, replicate, Option, Some, None, refl, ap, sym, subst, ◌∙◌, cond, length-append, length-take, length-drop, arith}
-use Rattle.std.specs.Prelude.{nat_le, nat_lt}
+use Rattle.std.proofs.Common.{◌≡◌, ℕ, zero, suc, ◌+◌, ◌-◌, ◌<◌, ◌≤◌, min, Bool, true, false, List, [], ◌∷◌, ◌++◌, length, take, replicate, Option, Some, None, refl, ap, sym, subst, ◌∙◌, cond, length-append, length-take, length-drop, arith}
 use Rattle.std.specs.Int.{is_power_of_two}
 use Rattle.std.specs.Option.{option_map}
-use Rattle.std.proofs.lemmas.Bool.Decides.{nat_tests}
 use Rattle.std.proofs.lemmas.List.{append-nil, append_assoc, length-replicate, places, same_lists, take_all}
 use Rattle.pe_core.specs.Bytes.{range, splice}
 use Rattle.pe_core.specs.Rows.{each}
@@ -11,7 +9,7 @@ use Rattle.pe_core.specs.SectionMap.{offset_of}
 use Rattle.pe_core.specs.declared.section_table.SectionTable.{SectionTable}
 use Rattle.pe_core.proofs.EntryItems.{each_same, get_or-each, length-each}
 use Rattle.pe_core.proofs.Ranges.{length_range}
-use Rattle.pe_core.proofs.Splices.{get_or-splice, length-splice, splice-splice}
+use Rattle.pe_core.proofs.Splices.{length-splice, splice-splice}
 use Rattle.pe_directories.specs.LoadedImages.{IsRun, byte_or_zero, in_turn, loaded_byte}
 use Rattle.pe_directories.specs.declared.section_runs.Run.{Run}
 

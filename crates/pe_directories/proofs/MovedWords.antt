@@ -1,13 +1,13 @@
 -- Base relocations change their words alone.
-use Rattle.std.proofs.Common.{◌≡◌, ℕ, zero, suc, ◌+◌, ◌-◌, ◌*◌, ◌/◌, ◌%◌, ◌^◌, ◌<◌, ◌≤◌, ◌==◌, ◌||◌, ◌&&◌, Bool, true, false, List, [], ◌∷◌, ◌++◌, length, get_or, refl, ap, sym, subst, ◌∙◌, length-append, length-take, length-drop, arith}
-use Rattle.std.specs.Prelude.{nat_le, nat_lt, slice_index, if◌then◌else◌}
+use Rattle.std.proofs.Common.{◌≡◌, ℕ, zero, suc, ◌+◌, ◌*◌, ◌/◌, ◌%◌, ◌^◌, ◌<◌, ◌≤◌, ◌==◌, Bool, true, false, List, [], ◌∷◌, length, get_or, refl, ap, sym, subst, ◌∙◌, length-append, length-take, length-drop, arith}
+use Rattle.std.specs.Prelude.{slice_index, if◌then◌else◌}
 use Rattle.std.proofs.Math.Nat.{mod-eq_of_lt, mul-le-mul_right, pow-suc}
 use Rattle.std.proofs.lemmas.Bool.Decides.{nat_tests}
 use Rattle.std.proofs.lemmas.List.{places, same_lists}
 use Rattle.pe_core.specs.Bytes.{AreBytes, bytes_of, le, range, splice}
 use Rattle.pe_core.proofs.NumberBytes.{bytes_of-le}
 use Rattle.pe_core.proofs.Ranges.{length_range}
-use Rattle.pe_core.proofs.Splices.{get_or-splice, length-bytes_of}
+use Rattle.pe_core.proofs.Splices.{length-bytes_of}
 use Rattle.pe_directories.specs.Relocated.{AllPassBy, AllStand, added_to, all_moved, moved, moved_number, passes_by, stands_in}
 use Rattle.pe_directories.specs.declared.relocating.Word.{Word}
 use Rattle.pe_directories.proofs.WordsLeft.{long_moved}

@@ -1,5 +1,5 @@
 -- The words of a whole table of base relocations, and the bytes that are none of theirs.
-use Rattle.std.proofs.Common.{◌≡◌, ℕ, Bool, true, List, [], ◌∷◌, length, get_or, Option, Some, None, Result, Ok, Err, refl, ap, sym, subst, ◌∙◌}
+use Rattle.std.proofs.Common.{◌≡◌, ℕ, true, List, [], ◌∷◌, length, get_or, Option, Some, None, Result, Ok, Err, refl, ap, sym, subst, ◌∙◌}
 use Rattle.std.specs.List.{AllByRecursion}
 use Rattle.pe_core.specs.Refusals.{◌>>=◌}
 use Rattle.pe_directories.specs.BaseRelocations.{Block, first_block, first_relocation}

@@ -1,15 +1,14 @@
 -- Base relocations applied: what is read of the relocations that are left, and what they make of the image.
-use Rattle.std.proofs.Common.{◌≡◌, ℕ, zero, suc, ◌+◌, ◌-◌, ◌/◌, ◌%◌, ◌^◌, ◌<◌, ◌≤◌, ◌==◌, ◌||◌, ◌&&◌, Bool, true, false, List, [], ◌∷◌, ◌++◌, map, length, take, drop, Option, Some, None, Result, Ok, Err, refl, ap, sym, subst, ◌∙◌, cond, length-append, length-take, length-drop, arith}
-use Rattle.std.specs.Prelude.{nat_le}
+use Rattle.std.proofs.Common.{◌≡◌, ℕ, ◌==◌, Bool, true, false, List, [], ◌∷◌, ◌++◌, map, length, Option, Some, None, Result, Ok, Err, refl, ap, sym, subst, ◌∙◌, length-append, length-take, length-drop, arith}
 use Rattle.std.proofs.lemmas.Bool.Decides.{nat_tests}
-use Rattle.pe_core.specs.Bytes.{bytes_of, le, splice}
+use Rattle.pe_core.specs.Bytes.{bytes_of, splice}
 use Rattle.pe_core.specs.Gathered.{all_or_refusal, with_rest}
 use Rattle.pe_core.specs.Refusals.{◌>>=◌}
 use Rattle.pe_core.proofs.Splices.{length-bytes_of, length-splice}
 use Rattle.pe_directories.specs.BaseRelocations.{Block, block_view, blocks_left, first_block, first_relocation, page_of, relocations_left}
-use Rattle.pe_directories.specs.DirectoryRefusals.{DirectoryRefusal, directory_answer, directory_kind_of}
-use Rattle.pe_directories.specs.Relocated.{added_to, all_moved, base_words, block_words, blocks_moved, moved, moved_number, stands_in, width_of, word_in, word_of}
-use Rattle.pe_directories.specs.Walks.{First, Steps, all_items, each_read}
+use Rattle.pe_directories.specs.DirectoryRefusals.{DirectoryRefusal, directory_answer}
+use Rattle.pe_directories.specs.Relocated.{all_moved, base_words, block_words, blocks_moved, moved, stands_in, width_of, word_in, word_of}
+use Rattle.pe_directories.specs.Walks.{Steps, all_items, each_read}
 use Rattle.pe_directories.specs.declared.base_relocation.BaseRelocation.{BaseRelocation}
 use Rattle.pe_directories.specs.declared.base_relocation.BaseRelocations.{BaseRelocations}
 use Rattle.pe_directories.specs.declared.base_relocation.RelocationBlock.{RelocationBlock}

@@ -127,10 +127,11 @@ impl DelayImport {
             (each_read (imported_by image.now self.now) (table_items table.entry)) }
     {
         let mut functions = Vec::with_capacity(alloc, names.len())?;
-        let mut i = 0;
-        while let Some(item) = table.next() {
-            functions.push(self.named_function(image, item?, names[i])?)?;
-            i += 1;
+        for name in names {
+            let Some(item) = table.next() else {
+                return Ok(functions);
+            };
+            functions.push(self.named_function(image, item?, *name)?)?;
         }
         Ok(functions)
     }
@@ -201,10 +202,11 @@ fn named_dlls<'a, A: Allocator>(
         (each_read (dll_of image.now) (entry_items entries.entry)) }
 {
     let mut dlls = Vec::with_capacity(alloc, names.len())?;
-    let mut i = 0;
-    while let Some(item) = entries.next() {
-        dlls.push(item?.named_dll(image, names[i])?)?;
-        i += 1;
+    for name in names {
+        let Some(item) = entries.next() else {
+            return Ok(dlls);
+        };
+        dlls.push(item?.named_dll(image, *name)?)?;
     }
     Ok(dlls)
 }

@@ -30,9 +30,6 @@ never_refused b p c r h e = grind (arith, unfit_if, fit_is)
 abbrev pub GoesCertificates : List ℕ → ℕ → List CertificateView → List ℕ → ℕ → List CertificateView → Type 0
 GoesCertificates b start cs now offset rest = Goes certificate_pieces written_length b start cs now offset rest
 
-pub next_fits : (b : List ℕ) (start : ℕ) (cs : List CertificateView) (now : List ℕ) (offset : ℕ) (c : CertificateView) (left rest : List CertificateView) → left ≡ c ∷ rest → length now ≡ length b → GoesCertificates b start cs now offset left → all_fit (length now) (certificate_pieces offset c) ≡ true
-next_fits b start cs now offset c left rest is l g = rw l (goes_fits certificate_pieces written_length b start cs now offset c rest (rw is at g))
-
 pub next_goes : (b : List ℕ) (start : ℕ) (cs : List CertificateView) (now next : List ℕ) (offset end : ℕ) (c : CertificateView) (left rest : List CertificateView) → left ≡ c ∷ rest → GoesCertificates b start cs now offset left → next ≡ put_in_turn now (certificate_pieces offset c) → end ≡ offset + written_length c → GoesCertificates b start cs next end rest
 next_goes b start cs now next offset end c left rest is g e f = rw f (goes_next certificate_pieces written_length b start cs now next offset c rest (rw is at g) e)
 

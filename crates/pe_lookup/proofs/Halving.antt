@@ -3,7 +3,8 @@ use Rattle.std.proofs.Common.{◌≡◌, ℕ, zero, suc, ◌+◌, ◌-◌, ◌*�
 use Rattle.std.specs.List.Sorted.{IsNonDecreasingBy}
 use Rattle.std.proofs.lemmas.Bool.{cases_lt}
 use Rattle.std.proofs.lemmas.Bool.Decides.{nat_tests}
-use Rattle.pe_lookup.specs.AddressRanges.{IsCountUpTo, start_by, started}
+use Rattle.pe_lookup.specs.AddressRanges.{AreAscending, IsCountUpTo, start_by, started}
+use Rattle.pe_lookup.proofs.Lookups.{starts_rise}
 
 power : (n : ℕ) → 0 < 2 ^ n
 power zero = omega arith
@@ -141,3 +142,8 @@ counted start d xs a rises =
     let count : (c : ℕ) × IsCountUpTo start a xs c = count_of start a xs rises in
     let is : started start d xs a (length xs) 0 ≡ count.0 = searched start d xs a count.0 (length xs) 0 count.1 (omega arith) (omega (arith, count.1.within, bits_enough (length xs))) in
     subst (λ (c : ℕ). IsCountUpTo start a xs c) (sym is) count.1
+
+-- that of ranges in ascending order
+pub counts_up : {X : Type 0} (start size : X → ℕ) (xs : List X) (a n : ℕ) → AreAscending start size xs → n ≤ length xs → ((d : X) → n ≡ started start d xs a (length xs) 0) → IsCountUpTo start a xs n
+counts_up start size [] a n up few is = record { within = few; before = λ k d lt. absurd (omega (arith, few, lt)); after = λ k d ge lt. absurd (omega (arith, lt)) }
+counts_up start size (x ∷ xs) a n up few is = subst (λ (c : ℕ). IsCountUpTo start a (x ∷ xs) c) (sym (is x)) (counted start x (x ∷ xs) a (starts_rise start size (x ∷ xs) up))

@@ -1,7 +1,8 @@
 -- A search of the entries of an index of sections.
-use Rattle.std.proofs.Common.{◌≡◌, ℕ, ◌+◌, ◌-◌, ◌^◌, ◌<◌, ◌≤◌, true, false, List, length, arith}
+use Rattle.std.proofs.Common.{◌≡◌, ℕ, ◌+◌, ◌-◌, ◌^◌, ◌<◌, ◌≤◌, true, false, List, length, ◌∙◌, arith}
 use Rattle.pe_lookup.proofs.Halving as halving
 use Rattle.pe_core.specs.declared.range_index.RangeEntry.{RangeEntry}
+use Rattle.pe_lookup.specs.AddressRanges as ranges
 use Rattle.pe_lookup.specs.SectionIndexes.{no_entry, start_by, started}
 
 abbrev pub start_of : RangeEntry → ℕ
@@ -22,3 +23,7 @@ module _ (es : List RangeEntry) (x : ℕ) where
 
   pub started_at_0 : (n k : ℕ) {whole : ℕ} → n ≡ 0 → started es x n k ≡ whole → k ≡ whole
   started_at_0 n k e same = halving.started_at_0 start_of no_entry es x n k e same
+
+  -- as many bits as there are entries are as good as 64
+  pub by_length : (k : ℕ) → length es < 2 ^ 64 → ((d : RangeEntry) → k ≡ ranges.started start_of d es x (length es) 0) → k ≡ started es x 64 0
+  by_length k small is = is no_entry ∙ halving.skipped start_of no_entry es x (length es) 64 (halving.bits_enough (length es)) small

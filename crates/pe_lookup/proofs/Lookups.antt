@@ -7,7 +7,6 @@ use Rattle.std.specs.List.{find, list_all}
 use Rattle.std.specs.Option.{is_none}
 use Rattle.std.specs.List.Sorted.{IsNonDecreasingBy}
 use Rattle.pe_core.proofs.Equality.{both}
-use Rattle.pe_core.proofs.Map.{found_passes}
 use Rattle.pe_lookup.specs.AddressRanges.{has_address, FirstAscend, AreAscending, IsCountUpTo, IsOverlap, Overlaps, rise_from}
 
 -- ---- the first element that passes

@@ -48,26 +48,7 @@ fn count_up_to<R: AddressRange>(ranges: &[R], address: u64) -> usize
     requires { AreAscending R.start_of R.size_of ranges.now }
     ensures { IsCountUpTo R.start_of address ranges.now result }
 {
-    if ranges.is_empty() {
-        return 0;
-    }
-    // The last that starts at or before it is one of `size` from `low` on, if there is one.
-    let mut low = 0;
-    let mut size = ranges.len();
-    while size > 1 {
-        let half = size / 2;
-        if ranges[low + half].start() <= address {
-            low += half;
-            size -= half;
-        } else {
-            size -= half;
-        }
-    }
-    if ranges[low].start() <= address {
-        low + 1
-    } else {
-        0
-    }
+    started(ranges, address)
 }
 
 /// The range that has an address, if the last of so many does, which start at or before it.

@@ -7,8 +7,23 @@
 ghost use Rattle.std.specs.Prelude.{◌≡◌, ◌+◌, ◌<◌, ◌≤◌, ◌^◌, length};
 ghost use Rattle.pe_lookup.specs.SectionIndexes.{start_by, started, number_found, numbered, sections_by};
 
-use crate::bits::{bits_of, power_of_two};
+use crate::address_ranges::{self, AddressRange};
 use pe_core::{RangeEntry, SectionTable};
+
+/// The RVAs from the start of an entry on. How far they reach, the next entry says.
+impl AddressRange for RangeEntry {
+    ghost start_of = { λ e. e.start };
+
+    ghost size_of = { λ e. 0 };
+
+    fn start(&self) -> u64 {
+        self.start
+    }
+
+    fn size(&self) -> u64 {
+        0
+    }
+}
 
 /// Whether there are so many entries, and the last of them starts at or before an RVA.
 pub fn start_by(entries: &[RangeEntry], rva: u64, count: usize) -> bool
@@ -23,16 +38,7 @@ fn started(entries: &[RangeEntry], rva: u64) -> usize
     ensures count { result ≡ started entries.now rva 64 0 }
     ensures most { result ≤ length entries.now }
 {
-    let mut count = 0;
-    let mut bits = bits_of(entries.len());
-    while bits > 0 {
-        bits -= 1;
-        let more = count + power_of_two(bits);
-        if start_by(entries, rva, more) {
-            count = more;
-        }
-    }
-    count
+    address_ranges::started(entries, rva)
 }
 
 /// The number in the last of the entries that start at or before an RVA.

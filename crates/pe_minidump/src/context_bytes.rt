@@ -6,6 +6,7 @@ ghost use Rattle.pe_core.specs.Refusals.{outcome};
 ghost use Rattle.pe_minidump.specs.Refusals.{ContextSize, DumpReturns};
 
 use crate::error::{DumpError, Result};
+use pe_core::read_u64;
 
 /// Returns `ContextSize` unless there are `needed` bytes.
 pub(crate) fn require_context(bytes: &[u8], needed: usize) -> Result<()>
@@ -26,22 +27,5 @@ pub(crate) fn read_u128(bytes: &[u8], offset: usize) -> u128
     requires { offset + 16 ≤ length bytes.now }
     ensures { result ≡ le bytes.now offset 16 }
 {
-    u128::from_le_bytes([
-        bytes[offset],
-        bytes[offset + 1],
-        bytes[offset + 2],
-        bytes[offset + 3],
-        bytes[offset + 4],
-        bytes[offset + 5],
-        bytes[offset + 6],
-        bytes[offset + 7],
-        bytes[offset + 8],
-        bytes[offset + 9],
-        bytes[offset + 10],
-        bytes[offset + 11],
-        bytes[offset + 12],
-        bytes[offset + 13],
-        bytes[offset + 14],
-        bytes[offset + 15],
-    ])
+    u128::from(read_u64(bytes, offset)) + (u128::from(read_u64(bytes, offset + 8)) << 64)
 }

@@ -1,7 +1,7 @@
 //! Why a dump, or a stream of one, is not read.
 
 /// Why a dump, or a stream of it, is not read. A stream that is refused leaves all others as they are.
-#[derive(Clone, Copy, Debug, PartialEq, thiserror::Error)]
+#[derive(Clone, Copy, Debug, thiserror::Error)]
 pub enum DumpError {
     /// A record of fixed size is truncated: how many bytes it has, and how many there are.
     #[error("record truncated: {needed} bytes needed, {length} left")]

@@ -6,7 +6,7 @@ ghost use Rattle.std.specs.Prelude.{◌≡◌};
 ghost use Rattle.pe_pdb.specs.Checksums.{checksum_at, checksum_view};
 ghost use Rattle.pe_pdb.specs.Refusals.{PdbReturns};
 
-use crate::error::{PdbError, Result};
+use crate::error::{Result, require_bytes, require_record};
 use pe_core::{read_u8, read_u32};
 
 /// How many bytes of a record come before the checksum.
@@ -30,21 +30,10 @@ impl<'a> FileChecksum<'a> {
     pub fn parse(content: &'a [u8], offset: usize) -> Result<FileChecksum<'a>>
         ensures { PdbReturns checksum_view result (checksum_at content.entry.now offset) }
     {
-        if content.len() < SIZE_OF_PREFIX || offset > content.len() - SIZE_OF_PREFIX {
-            return Err(PdbError::Short {
-                needed: SIZE_OF_PREFIX,
-                length: content.len().saturating_sub(offset),
-            });
-        }
+        require_bytes(content, offset, SIZE_OF_PREFIX)?;
         let start = offset + SIZE_OF_PREFIX;
         let size = usize::from(read_u8(content, offset + 4));
-        if content.len() - start < size {
-            return Err(PdbError::RecordTruncated {
-                offset,
-                needed: SIZE_OF_PREFIX + size,
-                length: content.len(),
-            });
-        }
+        require_record(content, offset, SIZE_OF_PREFIX + size)?;
         Ok(FileChecksum {
             name_offset: read_u32(content, offset),
             kind: read_u8(content, offset + 5),

@@ -7,7 +7,7 @@ ghost use Rattle.std.specs.Prelude.{◌≡◌, ◌+◌, ◌≤◌, length};
 ghost use Rattle.pe_pdb.specs.Contributions.{PutsRanges, contribution_of, contribution_row, contributions_in, contributions_of, contributions_view, count_of, module_range, width};
 ghost use Rattle.pe_pdb.specs.Refusals.{PdbReturns};
 
-use crate::error::{PdbError, Result};
+use crate::error::{PdbError, Result, require_bytes};
 use crate::sections::SectionHeaders;
 use pe_core::{read_u16, read_u32};
 
@@ -83,12 +83,7 @@ impl<'a> SectionContributions<'a> {
         if bytes.is_empty() {
             return SectionContributions::of(false, &[]);
         }
-        if bytes.len() < 4 {
-            return Err(PdbError::Short {
-                needed: 4,
-                length: bytes.len(),
-            });
-        }
+        require_bytes(bytes, 0, 4)?;
         let version = read_u32(bytes, 0);
         if version != VERSION && version != VERSION_2 {
             return Err(PdbError::ContributionsVersion(version));

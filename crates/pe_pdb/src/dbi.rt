@@ -9,7 +9,7 @@ ghost use Rattle.pe_core.specs.Bytes.{range};
 ghost use Rattle.pe_pdb.specs.Dbi.{dbi_header, dbi_header_of, dbi_of, dbi_parts, dbi_view, debug_start, debug_stream, size_of_parts};
 ghost use Rattle.pe_pdb.specs.Refusals.{PdbReturns};
 
-use crate::error::{PdbError, Result};
+use crate::error::{PdbError, Result, require_bytes};
 use pe_core::{read_u16, read_u32};
 
 /// The index of the DBI stream.
@@ -137,12 +137,7 @@ impl DbiHeader {
         ensures value { PdbReturns (λ h. h) result (dbi_header_of head.now length) }
         ensures inside { IfOk result (λ h. 64 + size_of_parts h ≤ length) }
     {
-        if head.len() < SIZE_OF_HEADER {
-            return Err(PdbError::Short {
-                needed: SIZE_OF_HEADER,
-                length: head.len(),
-            });
-        }
+        require_bytes(head, 0, SIZE_OF_HEADER)?;
         let signature = read_u32(head, 0);
         if signature != SIGNATURE {
             return Err(PdbError::DbiSignature(signature));

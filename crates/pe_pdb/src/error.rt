@@ -1,7 +1,12 @@
 //! Why a PDB, or a part of one, is not read.
 
+ghost use Rattle.std.specs.Prelude.{◌≡◌, ◌+◌, ◌≤◌, ◌∷◌, [], IfOk, length};
+ghost use Rattle.pe_core.specs.Bytes.{holds};
+ghost use Rattle.pe_core.specs.Refusals.{outcome};
+ghost use Rattle.pe_pdb.specs.Refusals.{PdbReturns, RecordTruncated, Short};
+
 /// Why a PDB, or a part of it, is not read. A stream, a record or a line table that is refused leaves all others as they are.
-#[derive(Clone, Copy, Debug, PartialEq, thiserror::Error)]
+#[derive(Clone, Copy, Debug, thiserror::Error)]
 pub enum PdbError {
     /// A record of fixed size is truncated: how many bytes it has, and how many there are.
     #[error("record truncated: {needed} bytes needed, {length} left")]
@@ -131,3 +136,36 @@ pub enum PdbError {
 
 /// The result of a call that may fail with `PdbError`.
 pub type Result<T> = std::result::Result<T, PdbError>;
+
+/// Returns `Short` unless `needed` bytes follow the offset.
+#[inline(always)]
+pub(crate) fn require_bytes(bytes: &[u8], offset: usize, needed: usize) -> Result<()>
+    ensures value { PdbReturns
+        (λ u. u) result (outcome ((holds bytes.now offset needed, Short) ∷ []) tt) }
+    ensures inside { IfOk result (λ u. offset + needed ≤ length bytes.now) }
+{
+    if bytes.len() < needed || offset > bytes.len() - needed {
+        return Err(PdbError::Short {
+            needed,
+            length: bytes.len().saturating_sub(offset),
+        });
+    }
+    Ok(())
+}
+
+/// Returns `RecordTruncated` unless the `needed` bytes of a record follow the offset.
+#[inline(always)]
+pub(crate) fn require_record(bytes: &[u8], offset: usize, needed: usize) -> Result<()>
+    ensures value { PdbReturns
+        (λ u. u) result (outcome ((holds bytes.now offset needed, RecordTruncated) ∷ []) tt) }
+    ensures inside { IfOk result (λ u. offset + needed ≤ length bytes.now) }
+{
+    if bytes.len() < needed || offset > bytes.len() - needed {
+        return Err(PdbError::RecordTruncated {
+            offset,
+            needed,
+            length: bytes.len(),
+        });
+    }
+    Ok(())
+}

@@ -11,7 +11,7 @@ ghost use Rattle.pe_pdb.specs.Ids.{AreStarts, count_of, function_id_of, function
 ghost use Rattle.pe_pdb.specs.Refusals.{PdbReturns};
 ghost use Rattle.pe_pdb.specs.Symbols.{symbol_view};
 
-use crate::error::{PdbError, Result};
+use crate::error::{PdbError, Result, require_bytes, require_record};
 use crate::record_text::record_text;
 use crate::symbol::SymbolRecord;
 use pe_core::read_u32;
@@ -71,21 +71,10 @@ impl<'a> TypeRecords<'a> {
         ensures value { PdbReturns types_view result (types_of bytes.entry.now) }
         ensures inside { IfOk result (λ t. t.offset + length t.records.now ≤ length bytes.entry.now) }
     {
-        if bytes.len() < SIZE_OF_HEADER {
-            return Err(PdbError::Short {
-                needed: SIZE_OF_HEADER,
-                length: bytes.len(),
-            });
-        }
+        require_bytes(bytes, 0, SIZE_OF_HEADER)?;
         let start = read_u32(bytes, 4) as usize;
         let size = read_u32(bytes, 16) as usize;
-        if bytes.len() < start + size {
-            return Err(PdbError::RecordTruncated {
-                offset: start,
-                needed: size,
-                length: bytes.len(),
-            });
-        }
+        require_record(bytes, start, size)?;
         Ok(TypeRecords {
             first: read_u32(bytes, 8),
             end: read_u32(bytes, 12),
@@ -164,12 +153,7 @@ impl<'a> FunctionId<'a> {
     pub fn parse(content: &'a [u8]) -> Result<FunctionId<'a>>
         ensures { PdbReturns function_id_view result (function_id_of content.entry.now) }
     {
-        if content.len() < FUNCTION_NAME {
-            return Err(PdbError::Short {
-                needed: FUNCTION_NAME,
-                length: content.len(),
-            });
-        }
+        require_bytes(content, 0, FUNCTION_NAME)?;
         match record_text(content, FUNCTION_NAME) {
             Some(name) => Ok(FunctionId {
                 scope: read_u32(content, 0),
@@ -187,12 +171,7 @@ impl<'a> FunctionId<'a> {
 pub fn string_id(content: &[u8]) -> Result<&str>
     ensures { PdbReturns (λ s. s.now) result (string_id_of content.now) }
 {
-    if content.len() < STRING {
-        return Err(PdbError::Short {
-            needed: STRING,
-            length: content.len(),
-        });
-    }
+    require_bytes(content, 0, STRING)?;
     match record_text(content, STRING) {
         Some(text) => Ok(text),
         None => Err(PdbError::Name(STRING)),

@@ -6,7 +6,7 @@ ghost use Rattle.std.specs.Prelude.{◌≡◌};
 ghost use Rattle.pe_pdb.specs.Info.{info_at, info_of, is_info_version};
 ghost use Rattle.pe_pdb.specs.Refusals.{PdbReturns};
 
-use crate::error::{PdbError, Result};
+use crate::error::{PdbError, Result, require_bytes};
 use pe_core::read_u32;
 
 /// The index of the info stream.
@@ -42,12 +42,7 @@ impl PdbInfo {
     pub fn parse(bytes: &[u8]) -> Result<PdbInfo>
         ensures { PdbReturns (λ i. i) result (info_of bytes.now) }
     {
-        if bytes.len() < SIZE_OF_INFO {
-            return Err(PdbError::Short {
-                needed: SIZE_OF_INFO,
-                length: bytes.len(),
-            });
-        }
+        require_bytes(bytes, 0, SIZE_OF_INFO)?;
         let version = read_u32(bytes, 0);
         if !is_info_version(version) {
             return Err(PdbError::InfoVersion(version));

@@ -6,7 +6,7 @@ ghost use Rattle.std.specs.Prelude.{◌≡◌};
 ghost use Rattle.pe_pdb.specs.InlineSites.{annotations_start, inline_site_of, inline_site_view};
 ghost use Rattle.pe_pdb.specs.Refusals.{PdbReturns};
 
-use crate::error::{PdbError, Result};
+use crate::error::{Result, require_bytes};
 use pe_core::read_u32;
 
 /// An inlined function.
@@ -43,12 +43,7 @@ impl<'a> InlineSite<'a> {
         ensures { PdbReturns inline_site_view result (inline_site_of kind content.entry.now) }
     {
         let start = annotations_start(kind);
-        if content.len() < start {
-            return Err(PdbError::Short {
-                needed: start,
-                length: content.len(),
-            });
-        }
+        require_bytes(content, 0, start)?;
         Ok(InlineSite {
             parent: read_u32(content, 0),
             end: read_u32(content, 4),

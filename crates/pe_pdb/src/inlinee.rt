@@ -7,7 +7,7 @@ ghost use Rattle.pe_core.specs.Bytes.{le};
 ghost use Rattle.pe_pdb.specs.Inlinees.{first_inlinee, inline_line, inlinee_at, inlinee_of, inlinee_row, inlinees};
 ghost use Rattle.pe_pdb.specs.Refusals.{PdbReturns};
 
-use crate::error::{PdbError, Result};
+use crate::error::{Result, require_bytes, require_record};
 use crate::inline_rows::InlineRow;
 use crate::line_lookup::is_line;
 use pe_core::read_u32;
@@ -48,30 +48,14 @@ fn record_end(extended: bool, bytes: &[u8], offset: usize) -> Result<usize>
     ensures value { PdbReturns (λ end. (inlinee_row bytes.now offset, end)) result (inlinee_at extended bytes.now offset) }
     ensures after { IfOk result (λ end. (offset < end) × (offset + 12 ≤ length bytes.now)) }
 {
-    if bytes.len() < SIZE_OF_RECORD || offset > bytes.len() - SIZE_OF_RECORD {
-        return Err(PdbError::Short {
-            needed: SIZE_OF_RECORD,
-            length: bytes.len().saturating_sub(offset),
-        });
-    }
+    require_bytes(bytes, offset, SIZE_OF_RECORD)?;
     let start = offset + SIZE_OF_RECORD;
     if !extended {
         return Ok(start);
     }
-    if bytes.len() - start < 4 {
-        return Err(PdbError::Short {
-            needed: 4,
-            length: bytes.len() - start,
-        });
-    }
+    require_bytes(bytes, start, 4)?;
     let size = 4 * read_u32(bytes, start) as usize;
-    if bytes.len() - start - 4 < size {
-        return Err(PdbError::RecordTruncated {
-            offset,
-            needed: SIZE_OF_RECORD + 4 + size,
-            length: bytes.len(),
-        });
-    }
+    require_record(bytes, offset, SIZE_OF_RECORD + 4 + size)?;
     Ok(start + 4 + size)
 }
 
@@ -113,12 +97,7 @@ impl InlineeLine {
     pub fn find(content: &[u8], inlinee: u32) -> Result<Option<InlineeLine>>
         ensures { PdbReturns (λ r. r) result (inlinee_of content.now inlinee) }
     {
-        if content.len() < 4 {
-            return Err(PdbError::Short {
-                needed: 4,
-                length: content.len(),
-            });
-        }
+        require_bytes(content, 0, 4)?;
         let extended = read_u32(content, 0) == 1;
         let mut next = skip_others(extended, content, inlinee);
         while next < content.len() {

@@ -12,7 +12,7 @@ ghost use Rattle.pe_pdb.specs.Lines.{RowAt, block_at, block_end, block_view, blo
 ghost use Rattle.pe_pdb.specs.Refusals.{PdbReturns};
 ghost use Rattle.pe_pdb.specs.Walks.{Takes};
 
-use crate::error::{PdbError, Result};
+use crate::error::{PdbError, Result, require_bytes, require_record};
 use crate::module::ModuleRecord;
 use pe_core::{read_u16, read_u32};
 
@@ -40,15 +40,9 @@ impl ModuleRecord {
         ensures { PdbReturns (λ b. b.now) result (line_bytes_of self.now stream.entry.now) }
     {
         let offset = self.symbols_size as usize + self.c11_size as usize;
-        let end = offset + self.c13_size as usize;
-        if stream.len() < end {
-            return Err(PdbError::RecordTruncated {
-                offset,
-                needed: self.c13_size as usize,
-                length: stream.len(),
-            });
-        }
-        Ok(&stream[offset..end])
+        let size = self.c13_size as usize;
+        require_record(stream, offset, size)?;
+        Ok(&stream[offset..offset + size])
     }
 }
 
@@ -67,23 +61,13 @@ impl<'a> Subsection<'a> {
     #[tactic(auto, unfolding(crate::specs::Lines::subsection_at))]
     pub fn parse(bytes: &'a [u8], offset: usize) -> Result<Subsection<'a>>
         ensures value { PdbReturns subsection_view result (subsection_at bytes.entry.now offset) }
+        ensures start { IfOk result (λ s. s.offset ≡ offset) }
         ensures inside { IfOk result (λ s. s.offset + 8 + length s.content.now ≤ length bytes.entry.now) }
     {
-        if bytes.len() < SIZE_OF_PREFIX || offset > bytes.len() - SIZE_OF_PREFIX {
-            return Err(PdbError::Short {
-                needed: SIZE_OF_PREFIX,
-                length: bytes.len().saturating_sub(offset),
-            });
-        }
+        require_bytes(bytes, offset, SIZE_OF_PREFIX)?;
         let start = offset + SIZE_OF_PREFIX;
         let size = read_u32(bytes, offset + 4) as usize;
-        if bytes.len() - start < size {
-            return Err(PdbError::RecordTruncated {
-                offset,
-                needed: SIZE_OF_PREFIX + size,
-                length: bytes.len(),
-            });
-        }
+        require_record(bytes, offset, SIZE_OF_PREFIX + size)?;
         Ok(Subsection {
             offset,
             kind: read_u32(bytes, offset),
@@ -109,9 +93,11 @@ impl<'a> Subsection<'a> {
     }
 
     /// Where the next one starts.
+    #[tactic(auto, using(std::proofs::lemmas::Grind::div_ceil_times))]
     pub(crate) fn end(&self) -> usize
         requires { self.now.offset + 12 + length self.now.content.now < 2 ^ 64 }
-        ensures { result ≡ subsection_end (subsection_view self.now) }
+        ensures value { result ≡ subsection_end (subsection_view self.now) }
+        ensures later { self.now.offset < result }
     {
         (self.offset + SIZE_OF_PREFIX + self.content.len()).div_ceil(4) * 4
     }
@@ -177,12 +163,7 @@ impl LineHeader {
     pub fn parse(content: &[u8]) -> Result<LineHeader>
         ensures { PdbReturns (λ h. h) result (line_header_of content.now) }
     {
-        if content.len() < FIRST_BLOCK {
-            return Err(PdbError::Short {
-                needed: FIRST_BLOCK,
-                length: content.len(),
-            });
-        }
+        require_bytes(content, 0, FIRST_BLOCK)?;
         Ok(LineHeader {
             offset: read_u32(content, 0),
             section: read_u16(content, 4),
@@ -248,15 +229,11 @@ impl<'a> LineBlock<'a> {
     #[tactic(auto, unfolding(crate::specs::Lines::block_at))]
     pub fn parse(content: &'a [u8], offset: usize) -> Result<LineBlock<'a>>
         ensures value { PdbReturns block_view result (block_at content.entry.now offset) }
+        ensures start { IfOk result (λ b. b.offset ≡ offset) }
         ensures inside { IfOk result (λ b. b.offset + b.size ≤ length content.entry.now) }
         ensures room { IfOk result (λ b. 12 + length b.rows.now ≤ b.size) }
     {
-        if content.len() < SIZE_OF_BLOCK || offset > content.len() - SIZE_OF_BLOCK {
-            return Err(PdbError::Short {
-                needed: SIZE_OF_BLOCK,
-                length: content.len().saturating_sub(offset),
-            });
-        }
+        require_bytes(content, offset, SIZE_OF_BLOCK)?;
         let rows = SIZE_OF_ROW * read_u32(content, offset + 4) as usize;
         let size = read_u32(content, offset + 8) as usize;
         if size < SIZE_OF_BLOCK + rows {
@@ -266,13 +243,7 @@ impl<'a> LineBlock<'a> {
                 length: size,
             });
         }
-        if content.len() - offset < size {
-            return Err(PdbError::RecordTruncated {
-                offset,
-                needed: size,
-                length: content.len(),
-            });
-        }
+        require_record(content, offset, size)?;
         let start = offset + SIZE_OF_BLOCK;
         Ok(LineBlock {
             offset,

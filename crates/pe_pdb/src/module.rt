@@ -8,7 +8,7 @@ ghost use Rattle.pe_pdb.specs.Modules.{module_at, module_end, module_record, mod
 ghost use Rattle.pe_pdb.specs.Refusals.{PdbReturns};
 ghost use Rattle.pe_pdb.specs.Walks.{Takes};
 
-use crate::error::{PdbError, Result};
+use crate::error::{PdbError, Result, require_bytes};
 use pe_core::{read_u16, read_u32};
 
 /// The size of a record without its names in bytes.
@@ -137,12 +137,7 @@ impl<'a> Module<'a> {
         ensures inside { IfOk result (λ m.
             m.offset + 66 + length m.name.now + length m.file.now ≤ length bytes.entry.now) }
     {
-        if bytes.len() < SIZE_OF_RECORD || offset > bytes.len() - SIZE_OF_RECORD {
-            return Err(PdbError::Short {
-                needed: SIZE_OF_RECORD,
-                length: bytes.len().saturating_sub(offset),
-            });
-        }
+        require_bytes(bytes, offset, SIZE_OF_RECORD)?;
         let name = name_at(bytes, offset + SIZE_OF_RECORD)?;
         let file = name_at(bytes, offset + SIZE_OF_RECORD + name.len() + 1)?;
         Ok(Module {

@@ -10,7 +10,7 @@ ghost use Rattle.pe_pdb.specs.Places.{all_below, directory_block, directory_word
 ghost use Rattle.pe_pdb.specs.Msf.{MsfView, blocks_for, directory_of, is_block_size, is_magic, is_pdb20, msf_of, msf_view, superblock, superblock_of, view_of};
 ghost use Rattle.pe_pdb.specs.Refusals.{PdbReturns};
 
-use crate::error::{PdbError, Result};
+use crate::error::{PdbError, Result, require_bytes};
 use crate::file::{BlockMap, Msf};
 use pe_core::{read_u32, read_u64};
 
@@ -91,12 +91,7 @@ impl SuperBlock {
     pub fn parse(bytes: &[u8]) -> Result<SuperBlock>
         ensures { PdbReturns (λ s. s) result (superblock_of bytes.now) }
     {
-        if bytes.len() < SIZE_OF_SUPERBLOCK {
-            return Err(PdbError::Short {
-                needed: SIZE_OF_SUPERBLOCK,
-                length: bytes.len(),
-            });
-        }
+        require_bytes(bytes, 0, SIZE_OF_SUPERBLOCK)?;
         if is_pdb20(bytes) {
             return Err(PdbError::Pdb20);
         }

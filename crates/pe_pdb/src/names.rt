@@ -10,7 +10,7 @@ ghost use Rattle.pe_pdb.specs.Modules.{name_at};
 ghost use Rattle.pe_pdb.specs.Names.{first_named, is_text_at, named_stream, names_of, names_view, pairs_start, stream_texts, words_end};
 ghost use Rattle.pe_pdb.specs.Refusals.{PdbReturns};
 
-use crate::error::{PdbError, Result};
+use crate::error::{PdbError, Result, require_bytes, require_record};
 use crate::module::name_at;
 use pe_core::{read_u8, read_u32};
 
@@ -45,24 +45,13 @@ impl<'a> Names<'a> {
     pub fn parse(bytes: &'a [u8]) -> Result<Names<'a>>
         ensures { PdbReturns names_view result (names_of bytes.entry.now) }
     {
-        if bytes.len() < SIZE_OF_HEADER {
-            return Err(PdbError::Short {
-                needed: SIZE_OF_HEADER,
-                length: bytes.len(),
-            });
-        }
+        require_bytes(bytes, 0, SIZE_OF_HEADER)?;
         let signature = read_u32(bytes, 0);
         if signature != SIGNATURE {
             return Err(PdbError::NamesSignature(signature));
         }
         let size = read_u32(bytes, 8) as usize;
-        if bytes.len() - SIZE_OF_HEADER < size {
-            return Err(PdbError::RecordTruncated {
-                offset: SIZE_OF_HEADER,
-                needed: size,
-                length: bytes.len(),
-            });
-        }
+        require_record(bytes, SIZE_OF_HEADER, size)?;
         Ok(Names {
             version: read_u32(bytes, 4),
             texts: &bytes[SIZE_OF_HEADER..SIZE_OF_HEADER + size],
@@ -118,20 +107,9 @@ fn stream_texts(bytes: &[u8]) -> Result<&[u8]>
     ensures inside { IfOk result (λ texts. 32 + length texts.now ≤ length bytes.now) }
 {
     let start = STREAM_NAMES + 4;
-    if bytes.len() < start {
-        return Err(PdbError::Short {
-            needed: start,
-            length: bytes.len(),
-        });
-    }
+    require_bytes(bytes, 0, start)?;
     let size = read_u32(bytes, STREAM_NAMES) as usize;
-    if bytes.len() - start < size {
-        return Err(PdbError::RecordTruncated {
-            offset: start,
-            needed: size,
-            length: bytes.len(),
-        });
-    }
+    require_record(bytes, start, size)?;
     Ok(&bytes[start..start + size])
 }
 
@@ -141,21 +119,10 @@ fn words_end(bytes: &[u8], offset: usize) -> Result<usize>
     ensures value { PdbReturns (λ n. n) result (words_end bytes.now offset) }
     ensures inside { IfOk result (λ end. end ≤ length bytes.now) }
 {
-    if bytes.len() - offset < 4 {
-        return Err(PdbError::Short {
-            needed: 4,
-            length: bytes.len() - offset,
-        });
-    }
+    require_bytes(bytes, offset, 4)?;
     let start = offset + 4;
     let size = 4 * read_u32(bytes, offset) as usize;
-    if bytes.len() - start < size {
-        return Err(PdbError::RecordTruncated {
-            offset: start,
-            needed: size,
-            length: bytes.len(),
-        });
-    }
+    require_record(bytes, start, size)?;
     Ok(start + size)
 }
 
@@ -166,22 +133,11 @@ fn pairs_start(bytes: &[u8], table: usize) -> Result<usize>
     ensures inside { IfOk result (λ start. start + 8 * le bytes.now table 4 ≤ length bytes.now) }
     ensures head { IfOk result (λ start. table + 8 ≤ length bytes.now) }
 {
-    if bytes.len() - table < 8 {
-        return Err(PdbError::Short {
-            needed: 8,
-            length: bytes.len() - table,
-        });
-    }
+    require_bytes(bytes, table, 8)?;
     let present = words_end(bytes, table + 8)?;
     let pairs = words_end(bytes, present)?;
     let size = SIZE_OF_PAIR * read_u32(bytes, table) as usize;
-    if bytes.len() - pairs < size {
-        return Err(PdbError::RecordTruncated {
-            offset: pairs,
-            needed: size,
-            length: bytes.len(),
-        });
-    }
+    require_record(bytes, pairs, size)?;
     Ok(pairs)
 }
 

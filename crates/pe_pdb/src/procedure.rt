@@ -6,7 +6,7 @@ ghost use Rattle.pe_pdb.specs.Procedures.{code_size_of, is_procedure, procedure_
 ghost use Rattle.pe_pdb.specs.Refusals.{PdbReturns};
 ghost use Rattle.pe_pdb.specs.Symbols.{symbol_view};
 
-use crate::error::{PdbError, Result};
+use crate::error::{PdbError, Result, require_bytes};
 use crate::record_text::record_text;
 use crate::sections::SectionHeaders;
 use crate::symbol::SymbolRecord;
@@ -60,12 +60,7 @@ impl<'a> ProcedureSymbol<'a> {
     pub fn parse(content: &'a [u8]) -> Result<ProcedureSymbol<'a>>
         ensures { PdbReturns procedure_view result (procedure_of content.entry.now) }
     {
-        if content.len() < NAME {
-            return Err(PdbError::Short {
-                needed: NAME,
-                length: content.len(),
-            });
-        }
+        require_bytes(content, 0, NAME)?;
         match record_text(content, NAME) {
             Some(name) => Ok(ProcedureSymbol {
                 parent: read_u32(content, 0),

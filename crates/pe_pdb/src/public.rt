@@ -7,7 +7,7 @@ ghost use Rattle.pe_pdb.specs.Publics.{public_function_rva, public_of, public_vi
 ghost use Rattle.pe_pdb.specs.Refusals.{PdbReturns};
 ghost use Rattle.pe_pdb.specs.Symbols.{symbol_view};
 
-use crate::error::{PdbError, Result};
+use crate::error::{PdbError, Result, require_bytes};
 use crate::record_text::record_text;
 use crate::sections::SectionHeaders;
 use crate::symbol::SymbolRecord;
@@ -38,12 +38,7 @@ impl<'a> PublicSymbol<'a> {
     pub fn parse(content: &'a [u8]) -> Result<PublicSymbol<'a>>
         ensures { PdbReturns public_view result (public_of content.entry.now) }
     {
-        if content.len() < NAME {
-            return Err(PdbError::Short {
-                needed: NAME,
-                length: content.len(),
-            });
-        }
+        require_bytes(content, 0, NAME)?;
         match record_text(content, NAME) {
             Some(name) => Ok(PublicSymbol {
                 flags: read_u32(content, 0),

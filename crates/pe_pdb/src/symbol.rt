@@ -8,7 +8,7 @@ ghost use Rattle.pe_pdb.specs.Refusals.{PdbReturns};
 ghost use Rattle.pe_pdb.specs.Symbols.{symbol_at, symbol_view, symbols, symbols_left};
 ghost use Rattle.pe_pdb.specs.Walks.{Takes};
 
-use crate::error::{PdbError, Result};
+use crate::error::{PdbError, Result, require_bytes, require_record};
 use pe_core::read_u16;
 
 /// The size of what comes before a record's content, in bytes.
@@ -30,26 +30,16 @@ impl<'a> SymbolRecord<'a> {
     #[tactic(auto, unfolding(crate::specs::Symbols::symbol_at))]
     pub fn parse(bytes: &'a [u8], offset: usize) -> Result<SymbolRecord<'a>>
         ensures value { PdbReturns symbol_view result (symbol_at bytes.entry.now offset) }
+        ensures start { IfOk result (λ r. r.offset ≡ offset) }
         ensures inside { IfOk result (λ r. r.offset + 4 + length r.content.now ≤ length bytes.entry.now) }
     {
-        if bytes.len() < SIZE_OF_PREFIX || offset > bytes.len() - SIZE_OF_PREFIX {
-            return Err(PdbError::Short {
-                needed: SIZE_OF_PREFIX,
-                length: bytes.len().saturating_sub(offset),
-            });
-        }
+        require_bytes(bytes, offset, SIZE_OF_PREFIX)?;
         let size = read_u16(bytes, offset);
         if size < 2 {
             return Err(PdbError::RecordSize { offset, size });
         }
+        require_record(bytes, offset, 2 + usize::from(size))?;
         let end = offset + 2 + usize::from(size);
-        if bytes.len() < end {
-            return Err(PdbError::RecordTruncated {
-                offset,
-                needed: 2 + usize::from(size),
-                length: bytes.len(),
-            });
-        }
         Ok(SymbolRecord {
             offset,
             kind: read_u16(bytes, offset + 2),

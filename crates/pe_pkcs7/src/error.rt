@@ -1,7 +1,7 @@
 //! Why a part of a signature is not read.
 
 /// Why a part of a signature is not read. Every offset counts from the start of the bytes that are passed.
-#[derive(Clone, Copy, Debug, PartialEq, thiserror::Error)]
+#[derive(Clone, Copy, Debug, thiserror::Error)]
 pub enum SignatureError {
     /// The parent ends before the octets of the length of an element end: its offset, and how many bytes are left there.
     #[error("element at offset {offset:#x} truncated: {left} bytes left")]

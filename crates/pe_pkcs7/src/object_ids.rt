@@ -2,14 +2,10 @@
 //! seven bits ([X.690](https://www.itu.int/rec/T-REC-X.690), 8.19), and the numbers by which callers know them. A caller compares
 //! others by `Element::content_is`. `tools/make_object_ids` writes this file.
 
-ghost use Rattle.std.specs.Prelude.{◌≡◌};
-ghost use Rattle.std.specs.Str.{bytes_eq};
-ghost use Rattle.pe_pkcs7.specs.ObjectIds.{content_type_number, attribute_number, algorithm_number, name_number, extension_number};
+ghost use Rattle.std.specs.Prelude.{◌≡◌, map};
+ghost use Rattle.pe_pkcs7.specs.ObjectIds.{number_in, content_type_number, attribute_number, algorithm_number, name_number, extension_number};
 
 // ---- content types, and types of what is signed
-
-/// 1.2.840.113549.1.7.1. id-data.
-pub const DATA: [u8; 9] = [0x2A, 0x86, 0x48, 0x86, 0xF7, 0x0D, 0x01, 0x07, 0x01];
 
 /// 1.2.840.113549.1.7.2. id-signedData: the content of a signature.
 pub const SIGNED_DATA: [u8; 9] = [0x2A, 0x86, 0x48, 0x86, 0xF7, 0x0D, 0x01, 0x07, 0x02];
@@ -29,39 +25,23 @@ pub const SPC_PE_IMAGE_DATA: [u8; 10] = [
     0x2B, 0x06, 0x01, 0x04, 0x01, 0x82, 0x37, 0x02, 0x01, 0x0F,
 ];
 
-/// 1.3.6.1.4.1.311.2.1.30. SPC_SIPINFO_OBJID: of a script or a package.
-pub const SPC_SIP_INFO: [u8; 10] = [0x2B, 0x06, 0x01, 0x04, 0x01, 0x82, 0x37, 0x02, 0x01, 0x1E];
-
-/// 1.3.6.1.4.1.311.2.1.25. SPC_CAB_DATA_OBJID: of a cabinet.
-pub const SPC_CAB_DATA: [u8; 10] = [0x2B, 0x06, 0x01, 0x04, 0x01, 0x82, 0x37, 0x02, 0x01, 0x19];
-
-/// 1.3.6.1.4.1.311.10.1. szOID_CTL: of a catalog.
-pub const CTL: [u8; 9] = [0x2B, 0x06, 0x01, 0x04, 0x01, 0x82, 0x37, 0x0A, 0x01];
+const CONTENT_TYPES: [(u32, &[u8]); 8] = [
+    (1, b"\x2A\x86\x48\x86\xF7\x0D\x01\x07\x01"), // DATA, 1.2.840.113549.1.7.1
+    (2, &SIGNED_DATA),
+    (3, &TST_INFO),
+    (4, &SPC_INDIRECT_DATA),
+    (5, &SPC_PE_IMAGE_DATA),
+    (6, b"\x2B\x06\x01\x04\x01\x82\x37\x02\x01\x1E"), // SPC_SIP_INFO, 1.3.6.1.4.1.311.2.1.30
+    (7, b"\x2B\x06\x01\x04\x01\x82\x37\x02\x01\x19"), // SPC_CAB_DATA, 1.3.6.1.4.1.311.2.1.25
+    (8, b"\x2B\x06\x01\x04\x01\x82\x37\x0A\x01"), // CTL, 1.3.6.1.4.1.311.10.1
+];
 
 /// The number of a content type, by the octets of its object identifier. 0 without one.
 #[tactic(auto, unfolding(crate::specs::ObjectIds::content_type_number))]
 pub fn content_type_number(octets: &[u8]) -> u32
     ensures { result ≡ content_type_number octets.now }
 {
-    if is(octets, &DATA) {
-        1
-    } else if is(octets, &SIGNED_DATA) {
-        2
-    } else if is(octets, &TST_INFO) {
-        3
-    } else if is(octets, &SPC_INDIRECT_DATA) {
-        4
-    } else if is(octets, &SPC_PE_IMAGE_DATA) {
-        5
-    } else if is(octets, &SPC_SIP_INFO) {
-        6
-    } else if is(octets, &SPC_CAB_DATA) {
-        7
-    } else if is(octets, &CTL) {
-        8
-    } else {
-        0
-    }
+    number_in(&CONTENT_TYPES, octets)
 }
 
 // ---- attributes of signers
@@ -78,26 +58,6 @@ pub const SIGNING_TIME: [u8; 9] = [0x2A, 0x86, 0x48, 0x86, 0xF7, 0x0D, 0x01, 0x0
 /// 1.2.840.113549.1.9.6. countersignature: a signer again.
 pub const COUNTER_SIGNATURE: [u8; 9] = [0x2A, 0x86, 0x48, 0x86, 0xF7, 0x0D, 0x01, 0x09, 0x06];
 
-/// 1.2.840.113549.1.9.16.2.12. id-aa-signingCertificate.
-pub const SIGNING_CERTIFICATE: [u8; 11] = [
-    0x2A, 0x86, 0x48, 0x86, 0xF7, 0x0D, 0x01, 0x09, 0x10, 0x02, 0x0C,
-];
-
-/// 1.2.840.113549.1.9.16.2.14. id-aa-timeStampToken: a time-stamp token (RFC 3161).
-pub const AA_TIME_STAMP_TOKEN: [u8; 11] = [
-    0x2A, 0x86, 0x48, 0x86, 0xF7, 0x0D, 0x01, 0x09, 0x10, 0x02, 0x0E,
-];
-
-/// 1.2.840.113549.1.9.16.2.47. id-aa-signingCertificateV2.
-pub const SIGNING_CERTIFICATE_V2: [u8; 11] = [
-    0x2A, 0x86, 0x48, 0x86, 0xF7, 0x0D, 0x01, 0x09, 0x10, 0x02, 0x2F,
-];
-
-/// 1.3.6.1.4.1.311.2.1.11. SPC_STATEMENT_TYPE_OBJID.
-pub const SPC_STATEMENT_TYPE: [u8; 10] = [
-    0x2B, 0x06, 0x01, 0x04, 0x01, 0x82, 0x37, 0x02, 0x01, 0x0B,
-];
-
 /// 1.3.6.1.4.1.311.2.1.12. SPC_SP_OPUS_INFO_OBJID: of the program.
 pub const SPC_SP_OPUS_INFO: [u8; 10] = [0x2B, 0x06, 0x01, 0x04, 0x01, 0x82, 0x37, 0x02, 0x01, 0x0C];
 
@@ -107,209 +67,81 @@ pub const NESTED_SIGNATURE: [u8; 10] = [0x2B, 0x06, 0x01, 0x04, 0x01, 0x82, 0x37
 /// 1.3.6.1.4.1.311.3.3.1. szOID_RFC3161_counterSign: a time-stamp token (RFC 3161).
 pub const TIME_STAMP_TOKEN: [u8; 10] = [0x2B, 0x06, 0x01, 0x04, 0x01, 0x82, 0x37, 0x03, 0x03, 0x01];
 
+const ATTRIBUTES: [(u32, &[u8]); 11] = [
+    (101, &CONTENT_TYPE),
+    (102, &MESSAGE_DIGEST),
+    (103, &SIGNING_TIME),
+    (104, &COUNTER_SIGNATURE),
+    (105, b"\x2A\x86\x48\x86\xF7\x0D\x01\x09\x10\x02\x0C"), // SIGNING_CERTIFICATE, 1.2.840.113549.1.9.16.2.12
+    (106, b"\x2A\x86\x48\x86\xF7\x0D\x01\x09\x10\x02\x0E"), // AA_TIME_STAMP_TOKEN, 1.2.840.113549.1.9.16.2.14
+    (107, b"\x2A\x86\x48\x86\xF7\x0D\x01\x09\x10\x02\x2F"), // SIGNING_CERTIFICATE_V2, 1.2.840.113549.1.9.16.2.47
+    (108, b"\x2B\x06\x01\x04\x01\x82\x37\x02\x01\x0B"), // SPC_STATEMENT_TYPE, 1.3.6.1.4.1.311.2.1.11
+    (109, &SPC_SP_OPUS_INFO),
+    (110, &NESTED_SIGNATURE),
+    (111, &TIME_STAMP_TOKEN),
+];
+
 /// The number of an attribute, by the octets of its object identifier. 0 without one.
 #[tactic(auto, unfolding(crate::specs::ObjectIds::attribute_number))]
 pub fn attribute_number(octets: &[u8]) -> u32
     ensures { result ≡ attribute_number octets.now }
 {
-    if is(octets, &CONTENT_TYPE) {
-        101
-    } else if is(octets, &MESSAGE_DIGEST) {
-        102
-    } else if is(octets, &SIGNING_TIME) {
-        103
-    } else if is(octets, &COUNTER_SIGNATURE) {
-        104
-    } else if is(octets, &SIGNING_CERTIFICATE) {
-        105
-    } else if is(octets, &AA_TIME_STAMP_TOKEN) {
-        106
-    } else if is(octets, &SIGNING_CERTIFICATE_V2) {
-        107
-    } else if is(octets, &SPC_STATEMENT_TYPE) {
-        108
-    } else if is(octets, &SPC_SP_OPUS_INFO) {
-        109
-    } else if is(octets, &NESTED_SIGNATURE) {
-        110
-    } else if is(octets, &TIME_STAMP_TOKEN) {
-        111
-    } else {
-        0
-    }
+    number_in(&ATTRIBUTES, octets)
 }
 
 // ---- algorithms: of digests, of signatures, of keys
 
-/// 1.2.840.113549.2.5.
-pub const MD5: [u8; 8] = [0x2A, 0x86, 0x48, 0x86, 0xF7, 0x0D, 0x02, 0x05];
-
-/// 1.3.14.3.2.26.
-pub const SHA1: [u8; 5] = [0x2B, 0x0E, 0x03, 0x02, 0x1A];
-
-/// 2.16.840.1.101.3.4.2.1.
-pub const SHA256: [u8; 9] = [0x60, 0x86, 0x48, 0x01, 0x65, 0x03, 0x04, 0x02, 0x01];
-
-/// 2.16.840.1.101.3.4.2.2.
-pub const SHA384: [u8; 9] = [0x60, 0x86, 0x48, 0x01, 0x65, 0x03, 0x04, 0x02, 0x02];
-
-/// 2.16.840.1.101.3.4.2.3.
-pub const SHA512: [u8; 9] = [0x60, 0x86, 0x48, 0x01, 0x65, 0x03, 0x04, 0x02, 0x03];
-
-/// 1.2.840.113549.1.1.1. a key; of a signature PKCS #1 v1.5.
-pub const RSA: [u8; 9] = [0x2A, 0x86, 0x48, 0x86, 0xF7, 0x0D, 0x01, 0x01, 0x01];
-
-/// 1.2.840.113549.1.1.4. PKCS #1 v1.5, as the next four.
-pub const MD5_RSA: [u8; 9] = [0x2A, 0x86, 0x48, 0x86, 0xF7, 0x0D, 0x01, 0x01, 0x04];
-
-/// 1.2.840.113549.1.1.5.
-pub const SHA1_RSA: [u8; 9] = [0x2A, 0x86, 0x48, 0x86, 0xF7, 0x0D, 0x01, 0x01, 0x05];
-
-/// 1.2.840.113549.1.1.11.
-pub const SHA256_RSA: [u8; 9] = [0x2A, 0x86, 0x48, 0x86, 0xF7, 0x0D, 0x01, 0x01, 0x0B];
-
-/// 1.2.840.113549.1.1.12.
-pub const SHA384_RSA: [u8; 9] = [0x2A, 0x86, 0x48, 0x86, 0xF7, 0x0D, 0x01, 0x01, 0x0C];
-
-/// 1.2.840.113549.1.1.13.
-pub const SHA512_RSA: [u8; 9] = [0x2A, 0x86, 0x48, 0x86, 0xF7, 0x0D, 0x01, 0x01, 0x0D];
-
-/// 1.2.840.113549.1.1.10. with its digest among the parameters.
-pub const RSA_PSS: [u8; 9] = [0x2A, 0x86, 0x48, 0x86, 0xF7, 0x0D, 0x01, 0x01, 0x0A];
-
-/// 1.2.840.10045.2.1. a key, with its curve as the parameters.
-pub const EC: [u8; 7] = [0x2A, 0x86, 0x48, 0xCE, 0x3D, 0x02, 0x01];
-
-/// 1.2.840.10045.4.1.
-pub const ECDSA_SHA1: [u8; 7] = [0x2A, 0x86, 0x48, 0xCE, 0x3D, 0x04, 0x01];
-
-/// 1.2.840.10045.4.3.2.
-pub const ECDSA_SHA256: [u8; 8] = [0x2A, 0x86, 0x48, 0xCE, 0x3D, 0x04, 0x03, 0x02];
-
-/// 1.2.840.10045.4.3.3.
-pub const ECDSA_SHA384: [u8; 8] = [0x2A, 0x86, 0x48, 0xCE, 0x3D, 0x04, 0x03, 0x03];
-
-/// 1.2.840.10045.4.3.4.
-pub const ECDSA_SHA512: [u8; 8] = [0x2A, 0x86, 0x48, 0xCE, 0x3D, 0x04, 0x03, 0x04];
-
-/// 1.2.840.10040.4.1. a key.
-pub const DSA: [u8; 7] = [0x2A, 0x86, 0x48, 0xCE, 0x38, 0x04, 0x01];
-
-/// 1.2.840.10040.4.3.
-pub const DSA_SHA1: [u8; 7] = [0x2A, 0x86, 0x48, 0xCE, 0x38, 0x04, 0x03];
-
-/// 1.3.14.3.2.29. the older identifier of SHA1_RSA, sha1WithRSA of the OIW.
-pub const SHA1_RSA_OIW: [u8; 5] = [0x2B, 0x0E, 0x03, 0x02, 0x1D];
-
-/// 1.2.840.113549.1.1.2. PKCS #1 v1.5.
-pub const MD2_RSA: [u8; 9] = [0x2A, 0x86, 0x48, 0x86, 0xF7, 0x0D, 0x01, 0x01, 0x02];
+const ALGORITHMS: [(u32, &[u8]); 21] = [
+    (201, b"\x2A\x86\x48\x86\xF7\x0D\x02\x05"), // MD5, 1.2.840.113549.2.5
+    (202, b"\x2B\x0E\x03\x02\x1A"), // SHA1, 1.3.14.3.2.26
+    (203, b"\x60\x86\x48\x01\x65\x03\x04\x02\x01"), // SHA256, 2.16.840.1.101.3.4.2.1
+    (204, b"\x60\x86\x48\x01\x65\x03\x04\x02\x02"), // SHA384, 2.16.840.1.101.3.4.2.2
+    (205, b"\x60\x86\x48\x01\x65\x03\x04\x02\x03"), // SHA512, 2.16.840.1.101.3.4.2.3
+    (206, b"\x2A\x86\x48\x86\xF7\x0D\x01\x01\x01"), // RSA, 1.2.840.113549.1.1.1
+    (207, b"\x2A\x86\x48\x86\xF7\x0D\x01\x01\x04"), // MD5_RSA, 1.2.840.113549.1.1.4
+    (208, b"\x2A\x86\x48\x86\xF7\x0D\x01\x01\x05"), // SHA1_RSA, 1.2.840.113549.1.1.5
+    (209, b"\x2A\x86\x48\x86\xF7\x0D\x01\x01\x0B"), // SHA256_RSA, 1.2.840.113549.1.1.11
+    (210, b"\x2A\x86\x48\x86\xF7\x0D\x01\x01\x0C"), // SHA384_RSA, 1.2.840.113549.1.1.12
+    (211, b"\x2A\x86\x48\x86\xF7\x0D\x01\x01\x0D"), // SHA512_RSA, 1.2.840.113549.1.1.13
+    (212, b"\x2A\x86\x48\x86\xF7\x0D\x01\x01\x0A"), // RSA_PSS, 1.2.840.113549.1.1.10
+    (213, b"\x2A\x86\x48\xCE\x3D\x02\x01"), // EC, 1.2.840.10045.2.1
+    (214, b"\x2A\x86\x48\xCE\x3D\x04\x01"), // ECDSA_SHA1, 1.2.840.10045.4.1
+    (215, b"\x2A\x86\x48\xCE\x3D\x04\x03\x02"), // ECDSA_SHA256, 1.2.840.10045.4.3.2
+    (216, b"\x2A\x86\x48\xCE\x3D\x04\x03\x03"), // ECDSA_SHA384, 1.2.840.10045.4.3.3
+    (217, b"\x2A\x86\x48\xCE\x3D\x04\x03\x04"), // ECDSA_SHA512, 1.2.840.10045.4.3.4
+    (218, b"\x2A\x86\x48\xCE\x38\x04\x01"), // DSA, 1.2.840.10040.4.1
+    (219, b"\x2A\x86\x48\xCE\x38\x04\x03"), // DSA_SHA1, 1.2.840.10040.4.3
+    (220, b"\x2B\x0E\x03\x02\x1D"), // SHA1_RSA_OIW, 1.3.14.3.2.29
+    (221, b"\x2A\x86\x48\x86\xF7\x0D\x01\x01\x02"), // MD2_RSA, 1.2.840.113549.1.1.2
+];
 
 /// The number of an algorithm, by the octets of its object identifier. 0 without one.
 #[tactic(auto, unfolding(crate::specs::ObjectIds::algorithm_number))]
 pub fn algorithm_number(octets: &[u8]) -> u32
     ensures { result ≡ algorithm_number octets.now }
 {
-    if is(octets, &MD5) {
-        201
-    } else if is(octets, &SHA1) {
-        202
-    } else if is(octets, &SHA256) {
-        203
-    } else if is(octets, &SHA384) {
-        204
-    } else if is(octets, &SHA512) {
-        205
-    } else if is(octets, &RSA) {
-        206
-    } else if is(octets, &MD5_RSA) {
-        207
-    } else if is(octets, &SHA1_RSA) {
-        208
-    } else if is(octets, &SHA256_RSA) {
-        209
-    } else if is(octets, &SHA384_RSA) {
-        210
-    } else if is(octets, &SHA512_RSA) {
-        211
-    } else if is(octets, &RSA_PSS) {
-        212
-    } else if is(octets, &EC) {
-        213
-    } else if is(octets, &ECDSA_SHA1) {
-        214
-    } else if is(octets, &ECDSA_SHA256) {
-        215
-    } else if is(octets, &ECDSA_SHA384) {
-        216
-    } else if is(octets, &ECDSA_SHA512) {
-        217
-    } else if is(octets, &DSA) {
-        218
-    } else if is(octets, &DSA_SHA1) {
-        219
-    } else if is(octets, &SHA1_RSA_OIW) {
-        220
-    } else if is(octets, &MD2_RSA) {
-        221
-    } else {
-        0
-    }
+    number_in(&ALGORITHMS, octets)
 }
 
 // ---- attributes of names
 
-/// 2.5.4.3. CN.
-pub const COMMON_NAME: [u8; 3] = [0x55, 0x04, 0x03];
-
-/// 2.5.4.5.
-pub const SERIAL_NUMBER: [u8; 3] = [0x55, 0x04, 0x05];
-
-/// 2.5.4.6. C.
-pub const COUNTRY: [u8; 3] = [0x55, 0x04, 0x06];
-
-/// 2.5.4.7. L.
-pub const LOCALITY: [u8; 3] = [0x55, 0x04, 0x07];
-
-/// 2.5.4.8. ST.
-pub const STATE: [u8; 3] = [0x55, 0x04, 0x08];
-
-/// 2.5.4.9. STREET.
-pub const STREET: [u8; 3] = [0x55, 0x04, 0x09];
-
-/// 2.5.4.10. O.
-pub const ORGANIZATION: [u8; 3] = [0x55, 0x04, 0x0A];
-
-/// 2.5.4.11. OU.
-pub const ORGANIZATIONAL_UNIT: [u8; 3] = [0x55, 0x04, 0x0B];
-
-/// 2.5.4.15.
-pub const BUSINESS_CATEGORY: [u8; 3] = [0x55, 0x04, 0x0F];
-
-/// 2.5.4.17.
-pub const POSTAL_CODE: [u8; 3] = [0x55, 0x04, 0x11];
-
-/// 0.9.2342.19200300.100.1.25. DC.
-pub const DOMAIN_COMPONENT: [u8; 10] = [0x09, 0x92, 0x26, 0x89, 0x93, 0xF2, 0x2C, 0x64, 0x01, 0x19];
-
-/// 0.9.2342.19200300.100.1.1. UID.
-pub const USER_ID: [u8; 10] = [0x09, 0x92, 0x26, 0x89, 0x93, 0xF2, 0x2C, 0x64, 0x01, 0x01];
-
-/// 1.2.840.113549.1.9.1.
-pub const EMAIL_ADDRESS: [u8; 9] = [0x2A, 0x86, 0x48, 0x86, 0xF7, 0x0D, 0x01, 0x09, 0x01];
-
-/// 1.3.6.1.4.1.311.60.2.1.3.
-pub const JURISDICTION_COUNTRY: [u8; 11] = [
-    0x2B, 0x06, 0x01, 0x04, 0x01, 0x82, 0x37, 0x3C, 0x02, 0x01, 0x03,
-];
-
-/// 1.3.6.1.4.1.311.60.2.1.2.
-pub const JURISDICTION_STATE: [u8; 11] = [
-    0x2B, 0x06, 0x01, 0x04, 0x01, 0x82, 0x37, 0x3C, 0x02, 0x01, 0x02,
-];
-
-/// 1.3.6.1.4.1.311.60.2.1.1.
-pub const JURISDICTION_LOCALITY: [u8; 11] = [
-    0x2B, 0x06, 0x01, 0x04, 0x01, 0x82, 0x37, 0x3C, 0x02, 0x01, 0x01,
+const NAMES: [(u32, &[u8]); 16] = [
+    (301, b"\x55\x04\x03"), // COMMON_NAME, 2.5.4.3
+    (302, b"\x55\x04\x05"), // SERIAL_NUMBER, 2.5.4.5
+    (303, b"\x55\x04\x06"), // COUNTRY, 2.5.4.6
+    (304, b"\x55\x04\x07"), // LOCALITY, 2.5.4.7
+    (305, b"\x55\x04\x08"), // STATE, 2.5.4.8
+    (306, b"\x55\x04\x09"), // STREET, 2.5.4.9
+    (307, b"\x55\x04\x0A"), // ORGANIZATION, 2.5.4.10
+    (308, b"\x55\x04\x0B"), // ORGANIZATIONAL_UNIT, 2.5.4.11
+    (309, b"\x55\x04\x0F"), // BUSINESS_CATEGORY, 2.5.4.15
+    (310, b"\x55\x04\x11"), // POSTAL_CODE, 2.5.4.17
+    (311, b"\x09\x92\x26\x89\x93\xF2\x2C\x64\x01\x19"), // DOMAIN_COMPONENT, 0.9.2342.19200300.100.1.25
+    (312, b"\x09\x92\x26\x89\x93\xF2\x2C\x64\x01\x01"), // USER_ID, 0.9.2342.19200300.100.1.1
+    (313, b"\x2A\x86\x48\x86\xF7\x0D\x01\x09\x01"), // EMAIL_ADDRESS, 1.2.840.113549.1.9.1
+    (314, b"\x2B\x06\x01\x04\x01\x82\x37\x3C\x02\x01\x03"), // JURISDICTION_COUNTRY, 1.3.6.1.4.1.311.60.2.1.3
+    (315, b"\x2B\x06\x01\x04\x01\x82\x37\x3C\x02\x01\x02"), // JURISDICTION_STATE, 1.3.6.1.4.1.311.60.2.1.2
+    (316, b"\x2B\x06\x01\x04\x01\x82\x37\x3C\x02\x01\x01"), // JURISDICTION_LOCALITY, 1.3.6.1.4.1.311.60.2.1.1
 ];
 
 /// The number of a name, by the octets of its object identifier. 0 without one.
@@ -317,103 +149,42 @@ pub const JURISDICTION_LOCALITY: [u8; 11] = [
 pub fn name_number(octets: &[u8]) -> u32
     ensures { result ≡ name_number octets.now }
 {
-    if is(octets, &COMMON_NAME) {
-        301
-    } else if is(octets, &SERIAL_NUMBER) {
-        302
-    } else if is(octets, &COUNTRY) {
-        303
-    } else if is(octets, &LOCALITY) {
-        304
-    } else if is(octets, &STATE) {
-        305
-    } else if is(octets, &STREET) {
-        306
-    } else if is(octets, &ORGANIZATION) {
-        307
-    } else if is(octets, &ORGANIZATIONAL_UNIT) {
-        308
-    } else if is(octets, &BUSINESS_CATEGORY) {
-        309
-    } else if is(octets, &POSTAL_CODE) {
-        310
-    } else if is(octets, &DOMAIN_COMPONENT) {
-        311
-    } else if is(octets, &USER_ID) {
-        312
-    } else if is(octets, &EMAIL_ADDRESS) {
-        313
-    } else if is(octets, &JURISDICTION_COUNTRY) {
-        314
-    } else if is(octets, &JURISDICTION_STATE) {
-        315
-    } else if is(octets, &JURISDICTION_LOCALITY) {
-        316
-    } else {
-        0
-    }
+    number_in(&NAMES, octets)
 }
 
 // ---- extensions of certificates
 
-/// 2.5.29.14.
-pub const SUBJECT_KEY_IDENTIFIER: [u8; 3] = [0x55, 0x1D, 0x0E];
-
 /// 2.5.29.15. what the key is for.
 pub const KEY_USAGE: [u8; 3] = [0x55, 0x1D, 0x0F];
 
-/// 2.5.29.17.
-pub const SUBJECT_ALT_NAME: [u8; 3] = [0x55, 0x1D, 0x11];
-
-/// 2.5.29.19. whether it is a certificate of an authority.
-pub const BASIC_CONSTRAINTS: [u8; 3] = [0x55, 0x1D, 0x13];
-
-/// 2.5.29.32.
-pub const CERTIFICATE_POLICIES: [u8; 3] = [0x55, 0x1D, 0x20];
-
-/// 2.5.29.35.
-pub const AUTHORITY_KEY_IDENTIFIER: [u8; 3] = [0x55, 0x1D, 0x23];
-
-/// 2.5.29.37. what the key is for, by object identifiers.
-pub const EXTENDED_KEY_USAGE: [u8; 3] = [0x55, 0x1D, 0x25];
-
-/// 2.5.29.31.
-pub const CRL_DISTRIBUTION_POINTS: [u8; 3] = [0x55, 0x1D, 0x1F];
-
-/// 1.3.6.1.5.5.7.1.1.
-pub const AUTHORITY_INFORMATION_ACCESS: [u8; 8] = [0x2B, 0x06, 0x01, 0x05, 0x05, 0x07, 0x01, 0x01];
+const EXTENSIONS: [(u32, &[u8]); 9] = [
+    (401, b"\x55\x1D\x0E"), // SUBJECT_KEY_IDENTIFIER, 2.5.29.14
+    (402, &KEY_USAGE),
+    (403, b"\x55\x1D\x11"), // SUBJECT_ALT_NAME, 2.5.29.17
+    (404, b"\x55\x1D\x13"), // BASIC_CONSTRAINTS, 2.5.29.19
+    (405, b"\x55\x1D\x20"), // CERTIFICATE_POLICIES, 2.5.29.32
+    (406, b"\x55\x1D\x23"), // AUTHORITY_KEY_IDENTIFIER, 2.5.29.35
+    (407, b"\x55\x1D\x25"), // EXTENDED_KEY_USAGE, 2.5.29.37
+    (408, b"\x55\x1D\x1F"), // CRL_DISTRIBUTION_POINTS, 2.5.29.31
+    (409, b"\x2B\x06\x01\x05\x05\x07\x01\x01"), // AUTHORITY_INFORMATION_ACCESS, 1.3.6.1.5.5.7.1.1
+];
 
 /// The number of an extension, by the octets of its object identifier. 0 without one.
 #[tactic(auto, unfolding(crate::specs::ObjectIds::extension_number))]
 pub fn extension_number(octets: &[u8]) -> u32
     ensures { result ≡ extension_number octets.now }
 {
-    if is(octets, &SUBJECT_KEY_IDENTIFIER) {
-        401
-    } else if is(octets, &KEY_USAGE) {
-        402
-    } else if is(octets, &SUBJECT_ALT_NAME) {
-        403
-    } else if is(octets, &BASIC_CONSTRAINTS) {
-        404
-    } else if is(octets, &CERTIFICATE_POLICIES) {
-        405
-    } else if is(octets, &AUTHORITY_KEY_IDENTIFIER) {
-        406
-    } else if is(octets, &EXTENDED_KEY_USAGE) {
-        407
-    } else if is(octets, &CRL_DISTRIBUTION_POINTS) {
-        408
-    } else if is(octets, &AUTHORITY_INFORMATION_ACCESS) {
-        409
-    } else {
-        0
-    }
+    number_in(&EXTENSIONS, octets)
 }
 
-/// Whether two object identifiers are the same.
-fn is(octets: &[u8], known: &[u8]) -> bool
-    ensures { result ≡ bytes_eq octets.now known.now }
+/// The number of the row with these octets. 0 without one.
+fn number_in(rows: &[(u32, &[u8])], octets: &[u8]) -> u32
+    ensures { result ≡ number_in (map (λ row. (row.0, row.1.now)) rows.now) octets.now }
 {
-    octets == known
+    for i in 0..rows.len() {
+        if octets == rows[i].1 {
+            return rows[i].0;
+        }
+    }
+    0
 }

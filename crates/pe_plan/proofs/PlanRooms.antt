@@ -19,21 +19,11 @@ pub refused_next : (most : ℕ) (t : Table) (b : List ℕ) (f g : RuntimeFunctio
 refused_next most t b f g xs n refusal long lt chain unwinds =
     (map unwind_view (take n xs), g, omega (arith, lt, long, many_taken xs n (omega (arith, lt, long))), chain, unwinds)
 
--- the root is the last record that was read
-pub ended : (most : ℕ) (t : Table) (b : List ℕ) (f : RuntimeFunction) (xs : List UnwindInfo) (n : ℕ) (o : Option RuntimeFunction) → length xs ≡ most → n ≤ most → o ≡ None →
-    IsChain t b (Some f) (map unwind_view (take n xs)) o → PlansUpTo most t b f (Ok (Some (map unwind_view (take n xs))))
-ended most t b f xs n o long le none chain =
-    (subst (λ (e : Option RuntimeFunction). IsChain t b (Some f) (map unwind_view (take n xs)) e) none chain, omega (arith, le, many_taken xs n (omega (arith, le, long))))
-
 -- as many records as there is room for are each chained to another
 pub full : (most : ℕ) (t : Table) (b : List ℕ) (f g : RuntimeFunction) (xs : List UnwindInfo) (n : ℕ) (o : Option RuntimeFunction) → length xs ≡ most → n ≡ most → o ≡ Some g →
     IsChain t b (Some f) (map unwind_view (take n xs)) o → PlansUpTo most t b f (Ok None)
 full most t b f g xs n o long is some chain =
     (map unwind_view (take n xs), g, many_taken xs n (omega (arith, is, long)) ∙ is, subst (λ (e : Option RuntimeFunction). IsChain t b (Some f) (map unwind_view (take n xs)) e) some chain)
-
--- what fits into less room is the short plan
-pub short_plan : (most : ℕ) (t : Table) (b : List ℕ) (f : RuntimeFunction) (is : List UnwindInfoView) → most ≤ most_records → PlansUpTo most t b f (Ok (Some is)) → PlansShort t b f (Ok (Some is))
-short_plan most t b f is le plan = (plan.0, omega (arith, le, plan.1))
 
 pub short_refusal : (most : ℕ) (t : Table) (b : List ℕ) (f : RuntimeFunction) (refusal : Refusal) → most ≤ most_records → PlansUpTo most t b f (Err refusal) → PlansShort t b f (Err refusal)
 short_refusal most t b f refusal le plan = (plan.0, plan.1, omega (arith, le, plan.2), plan.3, plan.4)

@@ -44,12 +44,6 @@ root_at_last t b f xs n o long is none chain =
     let all : IsChain t b (Some f) (map unwind_view (take 32 xs)) o = subst (λ (k : ℕ). IsChain t b (Some f) (map unwind_view (take k xs)) o) is chain in
     (subst (λ (e : Option RuntimeFunction). IsChain t b (Some f) (map unwind_view (take 32 xs)) e) none all, omega (arith, many_taken xs 32 (omega (arith, long))))
 
--- a record that cannot be read
-pub refused_after : (t : Table) (b : List ℕ) (f g : RuntimeFunction) (xs : List UnwindInfo) (n : ℕ) (refusal : Refusal) → n ≤ length xs → n < 32 →
-    IsChain t b (Some f) (map unwind_view (take n xs)) (Some g) → Unwinds t b g.unwind_info_address (Err refusal) → PlansShort t b f (Err refusal)
-refused_after t b f g xs n refusal le lt chain unwinds =
-    (map unwind_view (take n xs), g, omega (arith, lt, many_taken xs n le), chain, unwinds)
-
 -- what refuses the records refuses the plan
 pub plan_refused : (law : RecordLaw) (t : Table) (b : List ℕ) (f : RuntimeFunction) (refusal : Refusal) → PlansShort t b f (Err refusal) → PlansFrom t b f (Err refusal)
 plan_refused law t b f refusal h =

@@ -11,9 +11,6 @@ pub record IsPartRead (old now : Option (List ℕ)) (buffer : List ℕ) (filled 
   pub within : filled ≤ length buffer
   pub read : Consumes old now (take filled buffer)
 
-pub starts : (old : Option (List ℕ)) → IsPartRead old old [] 0
-starts old = record { within = omega arith; read = Consumes-nil old }
-
 -- the filled front stays, and a read returns `count` bytes after it
 pub goes_on : (old mid now : Option (List ℕ)) (before after : List ℕ) (filled count : ℕ) → IsPartRead old mid before filled → take filled after ≡ take filled before
     → Consumes mid now (take count (drop filled after)) → filled + count ≤ length after → IsPartRead old now after (filled + count)

@@ -1,4 +1,4 @@
-use Rattle.std.proofs.Common.{refl, rules, arith}
+use Rattle.std.proofs.Common.{rules, arith}
 use Rattle.pe_directories.proofs.LoadedImages.{all_laid, none_laid, run_laid}
 use Rattle.pe_directories.proofs.loaded_image.lay_out.Goals as goal
 

@@ -1,4 +1,4 @@
-use Rattle.std.proofs.Common.{Ok, Err, length, refl, rules, sym, ◌∙◌}
+use Rattle.std.proofs.Common.{Ok, Err, length, refl, rules, ◌∙◌}
 use Rattle.pe_directories.specs.BaseRelocations.{block_view}
 use Rattle.pe_directories.specs.Relocated.{all_moved, word_of}
 use Rattle.pe_directories.proofs.WordsLeft.{all_are_moved, item_is, no_relocation, not_item, not_read, relocation_taken, started_words, word_moved}

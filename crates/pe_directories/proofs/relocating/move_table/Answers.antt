@@ -1,4 +1,4 @@
-use Rattle.std.proofs.Common.{Ok, Err, length, refl, rules, sym, ◌∙◌}
+use Rattle.std.proofs.Common.{Ok, Err, length, refl, rules, sym}
 use Rattle.pe_directories.specs.BaseRelocations.{block_view}
 use Rattle.pe_directories.specs.Relocated.{block_words, blocks_moved}
 use Rattle.pe_directories.proofs.WordsLeft.{all_are_moved, block_moved, block_taken, item_is, no_block, not_item, started_blocks}

@@ -1,4 +1,4 @@
-use Rattle.std.proofs.Common.{◌≡◌, ◌<◌, length}
+use Rattle.std.proofs.Common.{length}
 use Rattle.pe_directories.proofs.SectionRuns.{Passed}
 use Rattle.pe_directories.proofs.section_runs.run_by_sections.Given as goal
 

@@ -4,7 +4,7 @@ use Rattle.pe_pdb.specs.LineEntries.{Writes, lines_of_subsection, module_lines}
 use Rattle.pe_pdb.specs.Lines.{subsection_view, subsections}
 use Rattle.pe_pdb.specs.Refusals.{pdb_kind_of}
 use Rattle.pe_pdb.proofs.LineEntries.{gathers_all, gathers_error, gathers_more, gathers_refused, lines_small, no_entries, writes_both}
-use Rattle.pe_pdb.proofs.LineWalks.{subsection_offset, subsections_later, subsections_more, subsections_none, subsections_refused}
+use Rattle.pe_pdb.proofs.LineWalks.{subsections_more, subsections_none, subsections_refused}
 use Rattle.pe_pdb.proofs.line_entries.put_lines.Goals as goal
 
 pub returns-in_err-subsection-clause-puts : goal.returns-in_err-subsection-clause-puts
@@ -28,26 +28,20 @@ returns-in_err-count-clause-puts c =
     (subsections_more b c.loop-next.next v c.loop-next-test.true c.in_ok-subsection.ensures.value) c.in_err-count.ensures.writes in
     search rules
 
-pub loop-next-smaller : goal.loop-next-smaller
-loop-next-smaller c =
-    let later = subsections_later c.args.bytes.now c.loop-next.next (subsection_view c.in_ok-subsection.subsection) c.in_ok-subsection.ensures.value in
-    omega (arith, later, c.end-next.ensures, c.loop-next-test.true)
-
 pub loop-next-preserved : goal.loop-next-preserved
 loop-next-preserved c =
     let b = c.args.bytes.now in
     let s = c.args.sections.now.bytes.now in
     let v = subsection_view c.in_ok-subsection.subsection in
-    let at : v.offset ≡ c.loop-next.next = subsection_offset b c.loop-next.next v c.in_ok-subsection.ensures.value in
     let times = div_ceil_times (v.offset + 8 + length v.content) 4 (omega arith) in
     let w = c.in_ok-count.ensures.writes in
     record {
       gathers = gathers_more (lines_of_subsection s) (subsections b 0) (subsections b c.loop-next.next) (subsections b c.end-next.result) v w.0
           (λ ys. Writes ys 0 c.args.room.now c.loop-next.count c.loop-next.room) (λ ys. Writes ys 0 c.args.room.now c.in_ok-count.count c.put_subsection.new.room) c.loop-next.invariant.gathers
-          (subsections_more b c.loop-next.next v c.loop-next-test.true c.in_ok-subsection.ensures.value ∙ ap (λ (n : ℕ). Ok v ∷ subsections b n) (sym c.end-next.ensures)) w.1
+          (subsections_more b c.loop-next.next v c.loop-next-test.true c.in_ok-subsection.ensures.value ∙ ap (λ (n : ℕ). Ok v ∷ subsections b n) (sym c.end-next.ensures.value)) w.1
           (λ xs sofar. writes_both xs w.0 0 c.loop-next.count c.in_ok-count.count c.args.room.now c.loop-next.room _ sofar w.2);
-      few = omega (arith, at, times.0, c.end-next.ensures, c.in_ok-count.ensures.few, c.loop-next.invariant.few);
-      near = omega (arith, times.1, c.end-next.ensures, c.in_ok-subsection.ensures.inside);
+      few = omega (arith, c.in_ok-subsection.ensures.start, times.0, c.end-next.ensures.value, c.in_ok-count.ensures.few, c.loop-next.invariant.few);
+      near = omega (arith, times.1, c.end-next.ensures.value, c.in_ok-subsection.ensures.inside);
       same = c.in_ok-count.ensures.len ∙ c.loop-next.invariant.same;
     }
 

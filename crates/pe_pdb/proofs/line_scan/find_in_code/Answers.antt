@@ -1,11 +1,11 @@
-use Rattle.std.proofs.Common.{◌≡◌, ℕ, ◌≤◌, ◌∷◌, Ok, Err, arith, rules, refl, ap, sym, ◌∙◌}
+use Rattle.std.proofs.Common.{◌≡◌, ℕ, ◌∷◌, Ok, Err, arith, rules, refl, ap, sym, ◌∙◌}
 use Rattle.pe_pdb.specs.Frames.{row_before}
 use Rattle.pe_pdb.specs.LineEntries.{block_lines, code_view, lines_of_code, rows_in}
 use Rattle.pe_pdb.specs.Lines.{BlockView, block_view, blocks}
 use Rattle.pe_pdb.specs.Refusals.{pdb_kind_of}
 use Rattle.pe_pdb.specs.Scans.{Finds}
 use Rattle.pe_pdb.proofs.LineEntries.{gathers_all, gathers_error, gathers_more, gathers_none}
-use Rattle.pe_pdb.proofs.LineWalks.{block_is, blocks_more, blocks_none, blocks_refused}
+use Rattle.pe_pdb.proofs.LineWalks.{blocks_more, blocks_none, blocks_refused}
 use Rattle.pe_pdb.proofs.Scans.{finds_both, finds_none}
 use Rattle.pe_pdb.proofs.line_scan.find_in_code.Goals as goal
 
@@ -22,13 +22,6 @@ loop-next-init c = record {
   gathers = gathers_none (λ (v : BlockView). Ok (block_lines (code_view c.args.code.now) v (rows_in v))) (blocks c.args.code.now.content.now 12) (λ ys. Finds (row_before c.args.rva) ys c.args.found c.args.found) (finds_none (row_before c.args.rva) c.args.found);
   inside = omega arith;
 }
-
-pub loop-next-smaller : goal.loop-next-smaller
-loop-next-smaller c =
-    let at = block_is c.args.code.now.content.now c.loop-next.next (block_view c.in_ok-block.block) c.in_ok-block.ensures.value in
-    let start : c.in_ok-block.block.offset ≡ c.loop-next.next = at.0 in
-    let size : 12 ≤ c.in_ok-block.block.size = at.1 in
-    omega (arith, start, size, c.end-next.ensures, c.loop-next-test.true)
 
 pub loop-next-preserved : goal.loop-next-preserved
 loop-next-preserved c =

@@ -8,7 +8,7 @@ use Rattle.pe_pdb.specs.Refusals.{pdb_kind_of}
 use Rattle.pe_pdb.specs.Scans.{found_in}
 use Rattle.pe_pdb.specs.declared.line_entries.CodeLine.{CodeLine}
 use Rattle.pe_pdb.proofs.LineEntries.{gathers_all, gathers_error, gathers_more, gathers_none, gathers_refused, lines_small}
-use Rattle.pe_pdb.proofs.LineWalks.{subsections_later, subsections_more, subsections_none, subsections_refused}
+use Rattle.pe_pdb.proofs.LineWalks.{subsections_more, subsections_none, subsections_refused}
 use Rattle.pe_pdb.proofs.Scans.{no_row}
 use Rattle.pe_pdb.proofs.line_scan.find_line.Goals as goal
 
@@ -41,11 +41,6 @@ loop-next-init c = record {
   near = omega arith;
 }
 
-pub loop-next-smaller : goal.loop-next-smaller
-loop-next-smaller c =
-    let later = subsections_later c.args.bytes.now c.loop-next.next (subsection_view c.in_ok-subsection.subsection) c.in_ok-subsection.ensures.value in
-    omega (arith, later, c.end-next.ensures, c.loop-next-test.true)
-
 pub loop-next-preserved : goal.loop-next-preserved
 loop-next-preserved c =
     let b = c.args.bytes.now in
@@ -56,8 +51,8 @@ loop-next-preserved c =
     record {
       gathers = gathers_more (lines_of_subsection s) (subsections b 0) (subsections b c.loop-next.next) (subsections b c.end-next.result) v w.0
           (λ ys. c.loop-next.last ≡ row_before c.args.rva ys) (λ ys. c.in_ok-last.last ≡ row_before c.args.rva ys) c.loop-next.invariant.gathers
-          (subsections_more b c.loop-next.next v c.loop-next-test.true c.in_ok-subsection.ensures.value ∙ ap (λ (n : ℕ). Ok v ∷ subsections b n) (sym c.end-next.ensures)) w.1 w.2;
-      near = omega (arith, times.1, c.end-next.ensures, c.in_ok-subsection.ensures.inside);
+          (subsections_more b c.loop-next.next v c.loop-next-test.true c.in_ok-subsection.ensures.value ∙ ap (λ (n : ℕ). Ok v ∷ subsections b n) (sym c.end-next.ensures.value)) w.1 w.2;
+      near = omega (arith, times.1, c.end-next.ensures.value, c.in_ok-subsection.ensures.inside);
     }
 
 pub returns : goal.returns

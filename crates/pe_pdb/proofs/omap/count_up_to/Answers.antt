@@ -1,4 +1,4 @@
-use Rattle.std.proofs.Common.{ℕ, ◌+◌, ◌-◌, ◌*◌, ◌/◌, ◌<◌, length, ap, arith}
+use Rattle.std.proofs.Common.{ℕ, ◌+◌, ◌-◌, ◌/◌, arith}
 use Rattle.pe_pdb.specs.Omap.{omap}
 use Rattle.pe_pdb.proofs.Halves.{goes_down, goes_up, starts}
 use Rattle.pe_pdb.proofs.OmapRows.{count_of_rows, row_in, rva_of_row}
@@ -7,24 +7,19 @@ use Rattle.pe_pdb.proofs.omap.count_up_to.Goals as goal
 pub loop-size-init : goal.loop-size-init
 loop-size-init c = record {
   some = omega arith;
+  fits = omega arith;
   cut = starts rva_of_row (omap c.args.table.now) c.args.rva _ (omega (arith, count_of_rows c.args.table.now));
 }
-
-pub at-requires : goal.at-requires
-at-requires c =
-    let w = c.loop-size.invariant.cut.within in
-    let n = count_of_rows c.args.table.now in omega (arith, w, n)
 
 pub loop-size-preserved-then-at-rva : goal.loop-size-preserved-then-at-rva
 loop-size-preserved-then-at-rva c =
     let l = c.loop-size in
     let b = c.args.table.now in
     let half : ℕ = l.size / 2 in
-    let w = l.invariant.cut.within in
-    let n = count_of_rows b in
     record {
       some = omega arith;
-      cut = goes_up rva_of_row (omap b) c.args.rva l.low (l.low + l.size) (l.low + half) (l.low + half) (l.low + half + (l.size - half)) c.at.result l.invariant.cut (omega arith) (omega arith) (omega arith) (λ d. row_in b (l.low + half) c.at.result d (omega (arith, w, n)) c.at.ensures) c.if-at-rva.true;
+      fits = omega arith;
+      cut = goes_up rva_of_row (omap b) c.args.rva l.low (l.low + l.size) (l.low + half) (l.low + half) (l.low + half + (l.size - half)) c.at.result l.invariant.cut (omega arith) (omega arith) (omega arith) (λ d. row_in b (l.low + half) c.at.result d (omega arith) c.at.ensures) c.if-at-rva.true;
     }
 
 pub loop-size-preserved : goal.loop-size-preserved
@@ -32,59 +27,23 @@ loop-size-preserved c =
     let l = c.loop-size in
     let b = c.args.table.now in
     let half : ℕ = l.size / 2 in
-    let w = l.invariant.cut.within in
-    let n = count_of_rows b in
     record {
       some = omega arith;
-      cut = goes_down rva_of_row (omap b) c.args.rva l.low (l.low + l.size) (l.low + half) (l.low + (l.size - half)) c.at.result l.invariant.cut (omega arith) (omega arith) (omega arith) (λ d. row_in b (l.low + half) c.at.result d (omega (arith, w, n)) c.at.ensures) (omega (arith, c.if-at-rva.false));
+      fits = omega arith;
+      cut = goes_down rva_of_row (omap b) c.args.rva l.low (l.low + l.size) (l.low + half) (l.low + (l.size - half)) c.at.result l.invariant.cut (omega arith) (omega arith) (omega arith) (λ d. row_in b (l.low + half) c.at.result d (omega arith) c.at.ensures) (omega (arith, c.if-at-rva.false));
     }
-
-pub at-requires-2 : goal.at-requires-2
-at-requires-2 c =
-    let w = c.loop-size.invariant.cut.within in
-    let s = c.loop-size.invariant.some in
-    let n = count_of_rows c.args.table.now in omega (arith, w, s, n)
 
 pub returns-then-at-rva-2 : goal.returns-then-at-rva-2
 returns-then-at-rva-2 c =
     let l = c.loop-size in
     let b = c.args.table.now in
-    let w = l.invariant.cut.within in
-    let n = count_of_rows b in
-    goes_up rva_of_row (omap b) c.args.rva l.low (l.low + l.size) l.low (l.low + 1) (l.low + 1) c.at-2.result l.invariant.cut (omega arith) (omega arith) (omega arith) (λ d. row_in b l.low c.at-2.result d (omega (arith, w, n, l.invariant.some)) c.at-2.ensures) c.if-at-rva-2.true
+    goes_up rva_of_row (omap b) c.args.rva l.low (l.low + l.size) l.low (l.low + 1) (l.low + 1) c.at-2.result l.invariant.cut (omega arith) (omega arith) (omega arith) (λ d. row_in b l.low c.at-2.result d (omega arith) c.at-2.ensures) c.if-at-rva-2.true
 
 pub returns-else-at-rva-2 : goal.returns-else-at-rva-2
 returns-else-at-rva-2 c =
     let l = c.loop-size in
     let b = c.args.table.now in
-    let w = l.invariant.cut.within in
-    let n = count_of_rows b in
-    goes_down rva_of_row (omap b) c.args.rva l.low (l.low + l.size) l.low l.low c.at-2.result l.invariant.cut (omega arith) (omega arith) (omega arith) (λ d. row_in b l.low c.at-2.result d (omega (arith, w, n, l.invariant.some)) c.at-2.ensures) (omega (arith, c.if-at-rva-2.false))
+    goes_down rva_of_row (omap b) c.args.rva l.low (l.low + l.size) l.low l.low c.at-2.result l.invariant.cut (omega arith) (omega arith) (omega arith) (λ d. row_in b l.low c.at-2.result d (omega arith) c.at-2.ensures) (omega (arith, c.if-at-rva-2.false))
 
 pub returns-then-size-eq0 : goal.returns-then-size-eq0
 returns-then-size-eq0 c = starts rva_of_row (omap c.args.table.now) c.args.rva 0 (omega (arith, count_of_rows c.args.table.now, c.if-size-eq0.true))
-
-pub overflow_add-low : goal.overflow_add-low
-overflow_add-low c =
-    let w = c.loop-size.invariant.cut.within in
-    let n = count_of_rows c.args.table.now in omega (arith, w, n)
-
-pub overflow_mul-low : goal.overflow_mul-low
-overflow_mul-low c =
-    let w = c.loop-size.invariant.cut.within in
-    let n = count_of_rows c.args.table.now in omega (arith, w, n)
-
-pub overflow_add-low-then-at-rva : goal.overflow_add-low-then-at-rva
-overflow_add-low-then-at-rva c =
-    let w = c.loop-size.invariant.cut.within in
-    let n = count_of_rows c.args.table.now in omega (arith, w, n)
-
-pub overflow_mul-low-2 : goal.overflow_mul-low-2
-overflow_mul-low-2 c =
-    let w = c.loop-size.invariant.cut.within in
-    let n = count_of_rows c.args.table.now in omega (arith, w, n)
-
-pub overflow_add-result : goal.overflow_add-result
-overflow_add-result c =
-    let w = c.loop-size.invariant.cut.within in
-    let n = count_of_rows c.args.table.now in omega (arith, w, n)

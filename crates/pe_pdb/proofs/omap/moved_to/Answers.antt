@@ -1,6 +1,6 @@
-use Rattle.std.proofs.Common.{◌+◌, ◌-◌, ◌*◌, ◌^◌, ◌<◌, arith, ap, ◌∙◌, subst, sym}
+use Rattle.std.proofs.Common.{◌+◌, ◌^◌, ◌<◌, arith, ap, ◌∙◌, subst, sym}
 use Rattle.std.specs.Option.{SomeIff, option_and_then}
-use Rattle.pe_pdb.specs.Omap.{moved_by, omap}
+use Rattle.pe_pdb.specs.Omap.{moved_by}
 use Rattle.pe_pdb.proofs.OmapRows.{count_of_rows, gone, last_row, no_row, there}
 use Rattle.pe_pdb.proofs.omap.moved_to.Goals as goal
 

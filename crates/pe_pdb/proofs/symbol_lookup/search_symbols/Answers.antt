@@ -1,4 +1,4 @@
-use Rattle.std.proofs.Common.{arith, ◌-◌, ◌<◌, ◌≤◌, ℕ, get_or, ap, refl, sym, ◌∙◌}
+use Rattle.std.proofs.Common.{arith, ◌-◌, ◌<◌, ◌≤◌, ℕ, get_or, ap, sym, ◌∙◌}
 use Rattle.pe_pdb.specs.SymbolEntries.{rva_in}
 use Rattle.pe_pdb.proofs.NearestEntries.{all_of_sorted, nearest_of, nearest_permuted, rvas_rise}
 use Rattle.pe_pdb.proofs.symbol_lookup.search_symbols.Goals as goal

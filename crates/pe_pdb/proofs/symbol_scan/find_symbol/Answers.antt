@@ -7,7 +7,6 @@ use Rattle.pe_pdb.specs.SymbolEntries.{addresses, rva_by}
 use Rattle.pe_pdb.specs.SymbolIndexes.{symbol_address}
 use Rattle.pe_pdb.specs.Symbols.{symbol_view}
 use Rattle.pe_pdb.specs.declared.symbol_lookup.SymbolAddress.{SymbolAddress}
-use Rattle.pe_pdb.proofs.RecordWalks.{symbol_offset}
 use Rattle.pe_pdb.proofs.Scans.{no_address}
 use Rattle.pe_pdb.proofs.SymbolEntries.{addresses_small, gathers_all, gathers_more, gathers_none, gathers_refused, gathers_skipped}
 use Rattle.pe_pdb.proofs.symbol_scan.find_symbol.Goals as goal
@@ -24,11 +23,6 @@ returns-in_err-record c =
 
 pub loop-next-init : goal.loop-next-init
 loop-next-init c = gathers_none (rva_by c.args.class c.args.sections.now.bytes.now) c.args.bytes.now c.args.start (λ xs. None ≡ address_before c.args.rva xs) (no_address c.args.rva)
-
-pub loop-next-smaller : goal.loop-next-smaller
-loop-next-smaller c =
-    let at = symbol_offset c.args.bytes.now c.loop-next.next (symbol_view c.in_ok-record.record) c.in_ok-record.ensures.value in
-    omega (arith, at, c.end.ensures, c.skip_others-next.ensures.after, c.loop-next-test.true)
 
 pub loop-next-preserved : goal.loop-next-preserved
 loop-next-preserved c =

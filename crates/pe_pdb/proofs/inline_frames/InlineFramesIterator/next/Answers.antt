@@ -5,7 +5,6 @@ use Rattle.pe_pdb.specs.Symbols.{symbol_end, symbol_view, symbols}
 use Rattle.pe_pdb.specs.declared.inline_walk.InlineFrame.{InlineFrame}
 use Rattle.pe_pdb.specs.declared.inline_walk.Step.{Step}
 use Rattle.pe_pdb.proofs.InlineWalks.{frames_end, frames_more, frames_refused}
-use Rattle.pe_pdb.proofs.RecordWalks.{symbol_offset}
 use Rattle.pe_pdb.proofs.inline_frames.InlineFramesIterator.next.Goals as goal
 
 pub returns-in-Err-clause-steps : goal.returns-in-Err-clause-steps
@@ -42,31 +41,27 @@ loop-self-preserved-in-Over c =
 pub at-requires-in-On : goal.at-requires-in-On
 at-requires-in-On c =
     let s = c.loop-self.self in
-    let at = symbol_offset s.bytes.now s.next (symbol_view c.in-Ok.record) c.in-Ok.ensures.value in
-    let start : c.in-Ok.record.offset ≡ s.next = at in
     let few = c.in-Ok-step.ensures.few c.in-On.scopes (ap (λ (k : Step). Ok k) c.in-On.is) in
     let before = s.few in
-    omega (arith, start, few, before, c.end.ensures)
+    omega (arith, c.in-Ok.ensures.start, few, before, c.end.ensures)
 
 pub loop-self-smaller : goal.loop-self-smaller
 loop-self-smaller c =
     let s = c.loop-self.self in
-    let start : c.in-Ok.record.offset ≡ s.next = symbol_offset s.bytes.now s.next (symbol_view c.in-Ok.record) c.in-Ok.ensures.value in
     let kept : length c.at-in-On.result.bytes.now ≡ length s.bytes.now = ap (λ r. length r.now) c.at-in-On.ensures.bytes in
-    omega (arith, start, kept, c.at-in-On.ensures.next, c.end.ensures, c.loop-self-test.true)
+    omega (arith, c.in-Ok.ensures.start, kept, c.at-in-On.ensures.next, c.end.ensures, c.loop-self-test.true)
 
 pub loop-self-preserved : goal.loop-self-preserved
 loop-self-preserved c =
     let s = c.loop-self.self in
     let b = s.bytes.now in
     let v = symbol_view c.in-Ok.record in
-    let start : c.in-Ok.record.offset ≡ s.next = symbol_offset b s.next v c.in-Ok.ensures.value in
     let kept : length c.at-in-On.result.bytes.now ≡ length b = ap (λ r. length r.now) c.at-in-On.ensures.bytes in
     record {
       same = c.loop-self.invariant.same ∙ frames_more s.offset s.scopes b s.next v c.loop-self-test.true c.in-Ok.ensures.value
           ∙ ap (λ (r : Result Step PdbRefusal). followed (λ inner. frames_in s.offset inner (symbols b (symbol_end v))) r) (c.in-Ok-step.ensures.value ∙ ap (λ (k : Step). Ok k) c.in-On.is)
           ∙ sym (c.at-in-On.ensures.left ∙ ap (λ (n : ℕ). frames_in s.offset c.in-On.scopes (symbols b n)) c.end.ensures);
-      bound = omega (arith, start, kept, c.at-in-On.ensures.next, c.end.ensures, c.loop-self.invariant.bound);
+      bound = omega (arith, c.in-Ok.ensures.start, kept, c.at-in-On.ensures.next, c.end.ensures, c.loop-self.invariant.bound);
     }
 
 pub returns-in-Found-clause-steps : goal.returns-in-Found-clause-steps
@@ -81,10 +76,9 @@ returns-in-Found-clause-steps c =
 pub returns-in-Found-clause-goes : goal.returns-in-Found-clause-goes
 returns-in-Found-clause-goes c =
     let s = c.loop-self.self in
-    let start : c.in-Ok.record.offset ≡ s.next = symbol_offset s.bytes.now s.next (symbol_view c.in-Ok.record) c.in-Ok.ensures.value in
     let kept : length c.at-in-Found.result.bytes.now ≡ length s.bytes.now = ap (λ r. length r.now) c.at-in-Found.ensures.bytes in
     let lower : length c.at-in-Found.result.bytes.now - c.at-in-Found.result.next < length c.args.self.now.bytes.now - c.args.self.now.next =
-    omega (arith, start, kept, c.at-in-Found.ensures.next, c.end-in-Found.ensures, c.loop-self-test.true, c.loop-self.invariant.bound) in
+    omega (arith, c.in-Ok.ensures.start, kept, c.at-in-Found.ensures.next, c.end-in-Found.ensures, c.loop-self-test.true, c.loop-self.invariant.bound) in
     search rules
 
 pub returns-clause-steps : goal.returns-clause-steps

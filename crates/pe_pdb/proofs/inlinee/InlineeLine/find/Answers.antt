@@ -19,7 +19,7 @@ returns-in_err-end c =
     let id : ℕ = c.args.inlinee in
     let same = ap (λ (n : ℕ). inlinee_at (n == 1) b c.loop-next.next) (sym c.read_u32-extended.ensures) in
     let refused : inlinee_of b id ≡ Err (pdb_kind_of c.in_err-end.field-0.0) =
-    whole b id (omega arith) ∙ c.loop-next.invariant ∙ first_refused id b c.loop-next.next (pdb_kind_of c.in_err-end.field-0.0) c.loop-next-test.true (same ∙ c.in_err-end.ensures.value) in
+    whole b id (omega (arith, c.in_ok-require_bytes.ensures.inside)) ∙ c.loop-next.invariant ∙ first_refused id b c.loop-next.next (pdb_kind_of c.in_err-end.field-0.0) c.loop-next-test.true (same ∙ c.in_err-end.ensures.value) in
     search rules
 
 pub returns-then-line-inlinee : goal.returns-then-line-inlinee
@@ -28,7 +28,7 @@ returns-then-line-inlinee c =
     let id : ℕ = c.args.inlinee in
     let same = ap (λ (n : ℕ). inlinee_at (n == 1) b c.loop-next.next) (sym c.read_u32-extended.ensures) in
     let own : (c.at-line.result.inlinee == id) ≡ true = grind (arith, nat_tests) in
-    whole b id (omega arith) ∙ c.loop-next.invariant ∙ first_here id b c.loop-next.next c.at-line.result c.in_ok-end.end c.loop-next-test.true (same ∙ c.in_ok-end.ensures.value ∙ here c.at-line.result (inlinee_row b c.loop-next.next) c.in_ok-end.end c.at-line.ensures) own
+    whole b id (omega (arith, c.in_ok-require_bytes.ensures.inside)) ∙ c.loop-next.invariant ∙ first_here id b c.loop-next.next c.at-line.result c.in_ok-end.end c.loop-next-test.true (same ∙ c.in_ok-end.ensures.value ∙ here c.at-line.result (inlinee_row b c.loop-next.next) c.in_ok-end.end c.at-line.ensures) own
 
 pub loop-next-preserved : goal.loop-next-preserved
 loop-next-preserved c =
@@ -42,4 +42,4 @@ pub returns : goal.returns
 returns c =
     let b = c.args.content.now in
     let id : ℕ = c.args.inlinee in
-    whole b id (omega arith) ∙ c.loop-next.invariant ∙ first_end id b c.loop-next.next (omega arith)
+    whole b id (omega (arith, c.in_ok-require_bytes.ensures.inside)) ∙ c.loop-next.invariant ∙ first_end id b c.loop-next.next (omega arith)

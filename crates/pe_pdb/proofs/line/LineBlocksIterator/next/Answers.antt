@@ -1,7 +1,7 @@
-use Rattle.std.proofs.Common.{length, List, ◌∷◌, Result, Ok, Err, arith, rules, sym, ap, ◌∙◌}
+use Rattle.std.proofs.Common.{length, List, ◌∷◌, Result, Ok, Err, arith, sym, ap, ◌∙◌}
 use Rattle.pe_pdb.specs.Refusals.{PdbRefusal, pdb_kind_of}
 use Rattle.pe_pdb.specs.Lines.{BlockView, block_view, blocks}
-use Rattle.pe_pdb.proofs.LineWalks.{blocks_later, blocks_more, blocks_none, blocks_refused}
+use Rattle.pe_pdb.proofs.LineWalks.{blocks_more, blocks_none, blocks_refused}
 use Rattle.pe_pdb.proofs.line.LineBlocksIterator.next.Goals as goal
 
 pub returns-then-self-clause-steps : goal.returns-then-self-clause-steps
@@ -13,11 +13,6 @@ returns-in-Ok-clause-steps c =
     let b = c.args.self.now.bytes.now in
     blocks_more b c.args.self.now.next (block_view c.in-Ok.block) (omega arith) c.in-Ok.ensures.value
     ∙ ap (λ n. Ok (block_view c.in-Ok.block) ∷ blocks b n) (sym c.end-self.ensures)
-
-pub returns-in-Ok-clause-goes : goal.returns-in-Ok-clause-goes
-returns-in-Ok-clause-goes c =
-    let start = blocks_later c.args.self.now.bytes.now c.args.self.now.next (block_view c.in-Ok.block) c.in-Ok.ensures.value in
-    search rules
 
 pub returns-in-Err-clause-steps : goal.returns-in-Err-clause-steps
 returns-in-Err-clause-steps c =

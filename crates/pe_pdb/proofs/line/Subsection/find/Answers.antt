@@ -3,7 +3,7 @@ use Rattle.std.proofs.lemmas.Bool.Decides.{nat_tests}
 use Rattle.std.specs.Prelude.{◌==◌}
 use Rattle.pe_pdb.specs.Lines.{first_of_kind, subsection_view, subsections}
 use Rattle.pe_pdb.specs.Refusals.{pdb_kind_of}
-use Rattle.pe_pdb.proofs.LineWalks.{kind_absent, kind_here, kind_later, kind_refused, subsections_later}
+use Rattle.pe_pdb.proofs.LineWalks.{kind_absent, kind_here, kind_later, kind_refused}
 use Rattle.pe_pdb.proofs.line.Subsection.find.Goals as goal
 
 pub returns-in_err-subsection-clause-value : goal.returns-in_err-subsection-clause-value
@@ -17,16 +17,11 @@ returns-then-subsection-kind-clause-value c =
     let own : (c.in_ok-subsection.subsection.kind == c.args.kind) ≡ true = grind (arith, nat_tests) in
     c.loop-next.invariant ∙ kind_here c.args.kind c.args.bytes.now c.loop-next.next (subsection_view c.in_ok-subsection.subsection) c.loop-next-test.true c.in_ok-subsection.ensures.value own
 
-pub loop-next-smaller : goal.loop-next-smaller
-loop-next-smaller c =
-    let later = subsections_later c.args.bytes.now c.loop-next.next (subsection_view c.in_ok-subsection.subsection) c.in_ok-subsection.ensures.value in
-    omega (arith, later, c.end-next.ensures, c.loop-next-test.true)
-
 pub loop-next-preserved : goal.loop-next-preserved
 loop-next-preserved c =
     let other : (c.in_ok-subsection.subsection.kind == c.args.kind) ≡ false = grind (arith, nat_tests) in
     c.loop-next.invariant ∙ kind_later c.args.kind c.args.bytes.now c.loop-next.next (subsection_view c.in_ok-subsection.subsection) c.loop-next-test.true c.in_ok-subsection.ensures.value other
-    ∙ ap (λ (n : ℕ). first_of_kind c.args.kind (subsections c.args.bytes.now n)) (sym c.end-next.ensures)
+    ∙ ap (λ (n : ℕ). first_of_kind c.args.kind (subsections c.args.bytes.now n)) (sym c.end-next.ensures.value)
 
 pub returns-clause-value : goal.returns-clause-value
 returns-clause-value c = c.loop-next.invariant ∙ kind_absent c.args.kind c.args.bytes.now c.loop-next.next (omega arith)

@@ -1,7 +1,7 @@
-use Rattle.std.proofs.Common.{length, List, ◌∷◌, Result, Ok, Err, arith, rules, sym, ap, ◌∙◌}
+use Rattle.std.proofs.Common.{length, List, ◌∷◌, Result, Ok, Err, arith, sym, ap, ◌∙◌}
 use Rattle.pe_pdb.specs.Refusals.{PdbRefusal, pdb_kind_of}
 use Rattle.pe_pdb.specs.Lines.{SubsectionView, subsection_view, subsections}
-use Rattle.pe_pdb.proofs.LineWalks.{subsections_later, subsections_more, subsections_none, subsections_refused}
+use Rattle.pe_pdb.proofs.LineWalks.{subsections_more, subsections_none, subsections_refused}
 use Rattle.pe_pdb.proofs.line.SubsectionsIterator.next.Goals as goal
 
 pub returns-then-self-clause-steps : goal.returns-then-self-clause-steps
@@ -12,12 +12,7 @@ pub returns-in-Ok-clause-steps : goal.returns-in-Ok-clause-steps
 returns-in-Ok-clause-steps c =
     let b = c.args.self.now.bytes.now in
     subsections_more b c.args.self.now.next (subsection_view c.in-Ok.subsection) (omega arith) c.in-Ok.ensures.value
-    ∙ ap (λ n. Ok (subsection_view c.in-Ok.subsection) ∷ subsections b n) (sym c.end-self.ensures)
-
-pub returns-in-Ok-clause-goes : goal.returns-in-Ok-clause-goes
-returns-in-Ok-clause-goes c =
-    let start = subsections_later c.args.self.now.bytes.now c.args.self.now.next (subsection_view c.in-Ok.subsection) c.in-Ok.ensures.value in
-    search rules
+    ∙ ap (λ n. Ok (subsection_view c.in-Ok.subsection) ∷ subsections b n) (sym c.end-self.ensures.value)
 
 pub returns-in-Err-clause-steps : goal.returns-in-Err-clause-steps
 returns-in-Err-clause-steps c =

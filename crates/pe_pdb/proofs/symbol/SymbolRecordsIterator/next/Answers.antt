@@ -1,7 +1,7 @@
-use Rattle.std.proofs.Common.{length, List, ◌∷◌, Result, Ok, Err, arith, rules, sym, ap, ◌∙◌}
+use Rattle.std.proofs.Common.{length, List, ◌∷◌, Result, Ok, Err, arith, sym, ap, ◌∙◌}
 use Rattle.pe_pdb.specs.Refusals.{PdbRefusal, pdb_kind_of}
 use Rattle.pe_pdb.specs.Symbols.{Symbol, symbol_view, symbols}
-use Rattle.pe_pdb.proofs.RecordWalks.{symbol_offset, symbols_more, symbols_none, symbols_refused}
+use Rattle.pe_pdb.proofs.RecordWalks.{symbols_more, symbols_none, symbols_refused}
 use Rattle.pe_pdb.proofs.symbol.SymbolRecordsIterator.next.Goals as goal
 
 pub returns-then-self-clause-steps : goal.returns-then-self-clause-steps
@@ -13,11 +13,6 @@ returns-in-Ok-clause-steps c =
     let b = c.args.self.now.bytes.now in
     symbols_more b c.args.self.now.next (symbol_view c.in-Ok.record) (omega arith) c.in-Ok.ensures.value
     ∙ ap (λ n. Ok (symbol_view c.in-Ok.record) ∷ symbols b n) (sym c.end-self.ensures)
-
-pub returns-in-Ok-clause-goes : goal.returns-in-Ok-clause-goes
-returns-in-Ok-clause-goes c =
-    let start = symbol_offset c.args.self.now.bytes.now c.args.self.now.next (symbol_view c.in-Ok.record) c.in-Ok.ensures.value in
-    search rules
 
 pub returns-in-Err-clause-steps : goal.returns-in-Err-clause-steps
 returns-in-Err-clause-steps c =
