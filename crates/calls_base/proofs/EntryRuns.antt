@@ -1,13 +1,13 @@
 -- A walk over entries of one width returns all of them.
 use Rattle.std.proofs.Common.{◌≡◌, ℕ, zero, suc, ◌+◌, ◌-◌, ◌<◌, ◌≤◌, Bool, true, false, List, [], ◌∷◌, length, Some, None, Result, Ok, Err, refl, sym, ap, subst, ◌∙◌, arith}
-use Rattle.std.specs.Prelude.{◌==◌, nat_lt, if◌then◌else◌}
+use Rattle.std.specs.Prelude.{◌==◌, nat_lt}
 use Rattle.std.proofs.lemmas.Bool.Decides.{nat_tests}
 use Rattle.pe_core.proofs.Ranges.{length_range, rest_of_range}
 use Rattle.pe_core.specs.Rows.{ReadsAfter, entry_items}
 use Rattle.pe_core.proofs.EntryItems.{entry_items_more, entry_items_none, entry_items_cut}
 use Rattle.pe_core.specs.Bytes.{holds, range}
 use Rattle.pe_core.specs.Refusals.{Refusal, Short}
-use Rattle.calls_base.specs.Ranges.{no_bytes, range_after}
+use Rattle.calls_base.specs.Ranges.{range_after}
 use Rattle.calls_base.specs.Runs.{ReturnsItems, IsOver}
 use Rattle.calls_base.specs.Walks.{StepsEntries, walk_items, left_entry}
 use Rattle.calls_base.specs.declared.ranges.Range.{Range}
@@ -32,18 +32,9 @@ whole width b r h e l = rw h (rw e (rw l refl))
 end_is_over : {X : Type 0} (entry_at : List ℕ → ℕ → X) (width : ℕ) (b : List ℕ) (r : Range) → left_entry width b r ≡ Ok None → IsOver (StepsEntries entry_at width b) r
 end_is_over entry_at width b r e answer next s = (s.0 ∙ rw e refl, s.1 ∙ rw e refl)
 
-no_bytes_left : (width : ℕ) (b : List ℕ) → left_entry width b no_bytes ≡ Ok None
-no_bytes_left width b = at_end width b no_bytes (grind (arith, nat_tests)) refl
-
 -- a refused step, after which the walk is over
 refusal : {X : Type 0} (entry_at : List ℕ → ℕ → X) (width : ℕ) (b : List ℕ) (r : Range) → left_entry width b r ≡ Err Short → ReturnsItems (StepsEntries entry_at width b) r (Err Short ∷ [])
-refusal entry_at width b r e = (
-  refl,
-  λ answer next s. (
-    s.0 ∙ rw e refl,
-    subst (λ (v : Range). IsOver (StepsEntries entry_at width b) v) (sym (s.1 ∙ rw e refl)) (end_is_over entry_at width b no_bytes (no_bytes_left width b)),
-  ),
-)
+refusal entry_at width b r e = grind (arith, end_is_over, at_end, nat_tests)
 
 -- the entries of the bytes of a range, by whether it is empty, and whether its first entry is truncated
 by_tests : {X : Type 0} (entry_at : List ℕ → ℕ → X) (width : ℕ) (b : List ℕ) (r : Range) (empty short : Bool) → ReadsAfter entry_at width → 0 < width → r.offset + r.length ≤ length b →
@@ -66,34 +57,17 @@ by_tests {X} entry_at width b r false true reads some h e l more =
     ∙ ap (λ (xs : List (Result X Refusal)). Err Short ∷ xs) (entry_items_none entry_at width [] some refl) in
     subst (λ (xs : List (Result X Refusal)). ReturnsItems (StepsEntries entry_at width b) r xs) (sym items) (refusal entry_at width b r (cut width b r there e l))
 by_tests {X} entry_at width b r false false reads some h e l more =
-    let there : holds b r.offset r.length ≡ true = grind (arith, nat_tests) in
-    let size : length (range b r.offset r.length) ≡ r.length = length_range b r.offset r.length h in
-    let fits : width ≤ r.length = grind (arith, nat_tests) in
-    let left : left_entry width b r ≡ Ok (Some (range b r.offset r.length)) = whole width b r there e l in
-    let items : entry_items entry_at width (range b r.offset r.length) ≡ Ok (entry_at (range b r.offset r.length) 0) ∷ entry_items entry_at width (range b (r.offset + width) (r.length - width)) =
-    entry_items_more entry_at width (range b r.offset r.length) reads some (omega (arith, size))
-    ∙ ap (λ (d : List ℕ). Ok (entry_at (range b r.offset r.length) 0) ∷ entry_items entry_at width d) (sym (rest_of_range b r.offset r.length width h fits)) in
-    subst (λ (xs : List (Result X Refusal)). ReturnsItems (StepsEntries entry_at width b) r xs) (sym items)
-    (λ answer next s. (
-      s.0 ∙ rw left refl,
-      subst (λ (v : Range). ReturnsItems (StepsEntries entry_at width b) v (entry_items entry_at width (range b (r.offset + width) (r.length - width)))) (sym (s.1 ∙ rw left refl)) (more fits),
-    ))
+    grind (arith, nat_tests, length_range, whole, entry_items_more, rest_of_range)
 
 gives_inside : {X : Type 0} (entry_at : List ℕ → ℕ → X) (width : ℕ) (b : List ℕ) (n : ℕ) (r : Range) → ReadsAfter entry_at width → 0 < width → r.offset + r.length ≤ length b → r.length ≤ n →
     ReturnsItems (StepsEntries entry_at width b) r (entry_items entry_at width (range b r.offset r.length))
-gives_inside entry_at width b zero r reads some h le =
-    by_tests entry_at width b r (r.length == 0) (nat_lt r.length width) reads some h refl refl (λ fits. absurd (omega arith))
+gives_inside entry_at width b zero r reads some h le = grind (arith, by_tests)
 gives_inside entry_at width b (suc n) r reads some h le =
     by_tests entry_at width b r (r.length == 0) (nat_lt r.length width) reads some h refl refl
     (λ fits. gives_inside entry_at width b n (range_after r width) reads some (omega arith) (omega arith))
 
-by_offset : {X : Type 0} (entry_at : List ℕ → ℕ → X) (width : ℕ) (b : List ℕ) (r : Range) (there : Bool) → ReadsAfter entry_at width → 0 < width → holds b r.offset r.length ≡ there →
-    ReturnsItems (StepsEntries entry_at width b) r (if there then entry_items entry_at width (range b r.offset r.length) else Err Short ∷ [])
-by_offset entry_at width b r true reads some h = gives_inside entry_at width b r.length r reads some (grind (arith, nat_tests)) (omega arith)
-by_offset entry_at width b r false reads some h = refusal entry_at width b r (outside width b r h)
-
 pub gives_entries : {X : Type 0} (entry_at : List ℕ → ℕ → X) (width : ℕ) → ReadsAfter entry_at width → 0 < width → (b : List ℕ) (r : Range) →
     ReturnsItems (StepsEntries entry_at width b) r (walk_items entry_at width b r)
-gives_entries entry_at width reads some b r = by_offset entry_at width b r (holds b r.offset r.length) reads some refl
+gives_entries entry_at width reads some b r = grind (arith, gives_inside, nat_tests, refusal, outside)
 
 -- ---- the walks

@@ -1,5 +1,5 @@
 -- Lists that are filled by the steps of a walk.
-use Rattle.std.proofs.Common.{◌≡◌, ℕ, ◌+◌, ◌<◌, ◌≤◌, inl, inr, Bool, true, false, List, [], ◌∷◌, ◌++◌, length, take, drop, slice_set, Option, Some, None, Result, Ok, Err, refl, sym, ap, subst, ◌∙◌, arith}
+use Rattle.std.proofs.Common.{◌≡◌, ℕ, ◌+◌, ◌<◌, ◌≤◌, Bool, true, false, List, [], ◌∷◌, ◌++◌, length, take, drop, slice_set, Option, Some, Result, Ok, Err, refl, sym, ap, subst, ◌∙◌, arith}
 use Rattle.std.proofs.lemmas.Grind.{drop_more_same}
 use Rattle.std.proofs.lemmas.List.{drop-set-lt, length-take-le, take-append-drop, take_more_set}
 use Rattle.calls_base.specs.Lists.{HandsOutListIf, Lists, Numbered, PutsList, Stops, Takes}
@@ -13,8 +13,7 @@ takes_more Steps w u v (y ∷ xs) x t s = (t.0, t.1, takes_more Steps t.0 u v xs
 
 pub written_more : {W X E : Type 0} (Steps : W → Result (Option X) E → W → Type 0) (w u v : W) (entries : List X) (n : ℕ) (x : X) → n < length entries →
     Takes Steps w (take n entries) u → Steps u (Ok (Some x)) v → Takes Steps w (take (n + 1) (slice_set entries n x)) v
-written_more {X = X} Steps w u v entries n x lt t s =
-    subst (λ (xs : List X). Takes Steps w xs v) (sym (take_more_set entries n x lt)) (takes_more Steps w u v (take n entries) x t s)
+written_more Steps w u v entries n x lt t s = grind (arith, take_more_set, takes_more)
 
 -- what is kept of the array, and how long it is
 pub kept_more : {X : Type 0} (xs ys : List X) (i : ℕ) (y : X) → drop i xs ≡ drop i ys → drop (i + 1) (slice_set xs i y) ≡ drop (i + 1) ys
@@ -23,8 +22,7 @@ kept_more xs ys i y e = rw (drop-set-lt (i + 1) xs i y (omega arith)) (drop_more
 -- a list that ends before there is no more room: the walk is at its end, or the next step is an error
 pub ends_list : {W X : Type 0} (Steps : W → Result (Option X) ℕ → W → Type 0) (w u v : W) (entries initial : List X) (n : ℕ) → n ≤ length entries → drop n entries ≡ drop n initial →
     Takes Steps w (take n entries) u → Stops Steps (length initial) (take n entries) u v → PutsList Steps w v initial entries (Ok n)
-ends_list {X = X} Steps w u v entries initial n inside kept t stops =
-    (take n entries, (u, t, stops), sym (length-take-le n entries inside), sym (take-append-drop n entries) ∙ ap (λ (xs : List X). take n entries ++ xs) kept)
+ends_list Steps w u v entries initial n inside kept t stops = grind (arith, length-take-le, take-append-drop)
 
 -- ---- what a call hands out
 
@@ -58,11 +56,7 @@ takes_as Known f Near Steps same s t (x ∷ xs) k h =
 
 stops_as : {S W X E : Type 0} (Known : S → Type 0) (f : S → W) (Near : S → Result (Option X) E → S → Type 0) (Steps : W → Result (Option X) E → W → Type 0) →
     StepsAs Known f Near Steps → (n : ℕ) (s t : S) (xs : List X) → Known s → Stops Near n xs s t → Known t × Stops Steps n xs (f s) (f t)
-stops_as Known f Near Steps same n s t xs k (inl h) = (subst Known (sym h.1) k, inl (h.0, ap f h.1))
-stops_as Known f Near Steps same n s t xs k (inr (inl h)) = let one = same s t (Ok None) k h.1 in (one.0, inr (inl (h.0, one.1)))
-stops_as Known f Near Steps same n s t xs k (inr (inr h)) =
-    let one = same s h.3.1 (Err h.3.0) k h.3.2 in
-    (subst Known (sym h.2) k, inr (inr (h.0, h.1, ap f h.2, (h.3.0, f h.3.1, one.1))))
+stops_as Known f Near Steps same n s t xs k e = grind arith
 
 lists_as : {S W X E : Type 0} (Known : S → Type 0) (f : S → W) (Near : S → Result (Option X) E → S → Type 0) (Steps : W → Result (Option X) E → W → Type 0) →
     StepsAs Known f Near Steps → (n : ℕ) (s t : S) (answer : Result (List X) E) → Known s → Lists Near n s answer t → Known t × Lists Steps n (f s) answer (f t)

@@ -1,6 +1,6 @@
 -- What the number in an index names: the first section that covers an RVA.
-use Rattle.std.proofs.Common.{◌≡◌, ℕ, zero, suc, ◌+◌, ◌-◌, ◌^◌, ◌<◌, ◌⊎◌, inl, inr, Bool, true, false, cond, List, [], ◌∷◌, length, take, drop, get_or, filter, Some, None, refl, ap, sym, ◌∙◌, arith, ◌&&◌}
-use Rattle.std.specs.Prelude.{nat_le, nat_lt, nat_eq}
+use Rattle.std.proofs.Common.{◌≡◌, ℕ, suc, ◌+◌, ◌-◌, ◌^◌, ◌<◌, ◌⊎◌, inl, inr, Bool, true, false, cond, List, [], ◌∷◌, length, take, drop, get_or, filter, Some, None, refl, arith}
+use Rattle.std.specs.Prelude.{nat_eq}
 use Rattle.std.specs.List.{position_or_len}
 use Rattle.std.proofs.lemmas.Bool.Decides.{nat_tests}
 use Rattle.pe_core.specs.declared.section_table.SectionTable.{SectionTable}
@@ -14,8 +14,7 @@ use Rattle.pe_core.proofs.RangeCuts.{last_starts, none_starts}
 use Rattle.pe_lookup.proofs.IndexSearches.{start_of}
 
 at_cut : (es : List RangeEntry) (x c : ℕ) → IsCountUpTo start_of x es c → cond (nat_eq c 0) 0 (get_or es (c - 1) no_entry).number ≡ number_at es x
-at_cut es x zero cut = none_starts es 0 x refl cut.after
-at_cut es x (suc c) cut = let some : nat_eq (suc c) 0 ≡ false = grind (arith, nat_tests) in ap (λ b. cond b 0 (get_or es (suc c - 1) no_entry).number) some ∙ last_starts es (suc c) x no_entry (omega arith) cut.within (λ k d l b. cut.before k d l) cut.after
+at_cut es x c cut = grind (arith, none_starts, nat_tests, last_starts)
 
 -- the search finds the number of the last entry that starts at or before an RVA
 pub found_at : (es : List RangeEntry) (x : ℕ) → Rises es → length es < 2 ^ 64 → number_found es x ≡ number_at es x
@@ -47,18 +46,7 @@ abbrev pub Covers : ℕ → ℕ → ℕ → ℕ → List SectionTable → Type 0
 Covers alignment x base n ss = NoneCovers alignment x n ss ⊎ ((i : ℕ) × (s : SectionTable) × OneCovers alignment x base n ss i s)
 
 by_first : (alignment x base : ℕ) (t : SectionTable) (ss : List SectionTable) (b : Bool) → covers alignment x t ≡ b → Covers alignment x (base + 1) (first_owner alignment x (base + 1) ss) ss → Covers alignment x base (cond b (base + 1) (first_owner alignment x (base + 1) ss)) (t ∷ ss)
-by_first alignment x base t ss true e rest = inr (
-  0,
-  t,
-  record {
-    number = omega arith;
-    inside = omega arith;
-    named = refl;
-    covered = e;
-    found = rw e refl;
-    position = rw e refl;
-  },
-)
+by_first alignment x base t ss true e rest = grind (arith)
 by_first alignment x base t ss false e (inl none) = inl (record { number = none.number; none = rw e none.none; past = rw e (omega (arith, none.past)) })
 by_first alignment x base t ss false e (inr (i, s, one)) = inr (
   suc i,
@@ -81,14 +69,8 @@ pub numbered_none : (ss : List SectionTable) (n : ℕ) → n ≡ 0 → numbered 
 numbered_none ss n e = rw e refl
 
 pub numbered_some : (ss : List SectionTable) (i n : ℕ) → n ≡ 0 + i + 1 → i < length ss → numbered ss n ≡ take 1 (drop i ss)
-numbered_some ss i n e h =
-    let inside : (nat_lt 0 n && nat_le n (length ss)) ≡ true = grind (arith, nat_tests) in
-    let at : n - 1 ≡ i = omega arith in
-    rw inside (ap (λ k. take 1 (drop k ss)) at)
+numbered_some ss i n e h = grind (arith, nat_tests)
 
 -- the section that the number names is the first that covers the RVA
 pub numbered_first : (alignment x n : ℕ) (ss : List SectionTable) → n ≡ first_owner alignment x 0 ss → first (filter (covers alignment x) (numbered ss n)) ≡ first (filter (covers alignment x) ss)
-numbered_first alignment x n ss e = elim (covers_of alignment x 0 ss) [
-  | inl none ↦ ap (λ l. first (filter (covers alignment x) l)) (numbered_none ss n (e ∙ none.number)) ∙ sym none.none
-  | inr (i, s, one) ↦ ap (λ l. first (filter (covers alignment x) l)) (numbered_some ss i n (e ∙ one.number) one.inside ∙ one.named) ∙ ap (λ b. first (cond b (s ∷ []) [])) one.covered ∙ sym one.found
-]
+numbered_first alignment x n ss e = grind (arith, covers_of, numbered_none, numbered_some)

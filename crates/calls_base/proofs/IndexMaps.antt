@@ -1,14 +1,14 @@
 -- An index of the sections of an image maps RVAs as the sections do.
-use Rattle.std.proofs.Common.{◌≡◌, ℕ, zero, suc, ◌+◌, ◌-◌, ◌*◌, ◌^◌, ◌<◌, ◌≤◌, inl, inr, Bool, true, false, not, cond, List, [], ◌∷◌, length, take, drop, filter, Option, Some, None, refl, ap, sym, ◌∙◌, ⊎_elim, ◌&&◌, arith}
+use Rattle.std.proofs.Common.{◌≡◌, ℕ, zero, suc, ◌+◌, ◌-◌, ◌*◌, ◌^◌, ◌<◌, ◌≤◌, Bool, true, false, cond, List, [], ◌∷◌, length, take, drop, filter, Option, Some, None, refl, ap, ◌∙◌, ◌&&◌, arith, rules}
 use Rattle.std.specs.Prelude.{nat_le, nat_lt}
 use Rattle.std.specs.Int.{is_power_of_two}
-use Rattle.std.specs.List.{position, position_or_len, slice_get}
+use Rattle.std.specs.List.{position, slice_get}
 use Rattle.std.specs.Option.{option_and_then, option_map}
 use Rattle.std.proofs.lemmas.Bool.{cases_lt}
 use Rattle.std.proofs.lemmas.Bool.Decides.{nat_tests}
 use Rattle.pe_core.specs.declared.section_table.SectionTable.{SectionTable}
 use Rattle.pe_core.specs.RangeIndexes.{EndBelow, Indexes, number_at}
-use Rattle.pe_core.specs.SectionMap.{covers, first, offset_of, raw_start, reach}
+use Rattle.pe_core.specs.SectionMap.{covers, first, offset_of, reach}
 use Rattle.calls_base.specs.declared.image.Image.{Image}
 use Rattle.calls_base.specs.declared.view.View.{View}
 use Rattle.pe_core.specs.declared.range_index.RangeEntry.{RangeEntry}
@@ -22,8 +22,7 @@ use Rattle.pe_core.proofs.Equality.{both}
 
 offset_same : (resolve : Bool) (alignment x : ℕ) (s t : List SectionTable) → first (filter (covers alignment x) s) ≡ first (filter (covers alignment x) t) → offset_of resolve alignment s x ≡ offset_of resolve alignment t x
 unfolding offset_of
-offset_same resolve alignment x s t e =
-    ap (λ (o : Option SectionTable). cond (not resolve) (Some x) (cond (is_power_of_two alignment) (option_map (λ s. x - s.virtual_address + raw_start s) o) None)) e
+offset_same resolve alignment x s t e = grind arith
 
 -- the index of the section that covers an RVA
 index_in : ℕ → ℕ → List SectionTable → Option ℕ
@@ -41,14 +40,7 @@ one_section alignment x s e = rw e refl
 
 named_index : (alignment x n : ℕ) (ss : List SectionTable) → n ≡ first_owner alignment x 0 ss → Covers alignment x 0 (first_owner alignment x 0 ss) ss → option_map (λ i. n - 1) (index_in alignment x (numbered ss n)) ≡ index_in alignment x ss
 unfolding index_in
-named_index alignment x n ss e (inl none) =
-    ap (λ l. option_map (λ i. n - 1) (index_in alignment x l)) (numbered_none ss n (e ∙ none.number)) ∙ sym (past (position_or_len (covers alignment x) ss) (length ss) none.past)
-named_index alignment x n ss e (inr (i, s, one)) =
-    let less : n - 1 ≡ i = omega (arith, e, one.number) in
-    ap (λ l. option_map (λ i. n - 1) (index_in alignment x l)) (numbered_some ss i n (e ∙ one.number) one.inside ∙ one.named)
-    ∙ ap (option_map (λ i. n - 1)) (one_section alignment x s one.covered)
-    ∙ ap (λ (k : ℕ). Some k) less
-    ∙ sym (at (position_or_len (covers alignment x) ss) i (length ss) one.position one.inside)
+named_index alignment x n ss e i = grind (arith, index_in, numbered_none, past, numbered_some, one_section, at)
 
 -- the section at an index
 got : (ss : List SectionTable) (i : ℕ) (s : SectionTable) → take 1 (drop i ss) ≡ s ∷ [] → slice_get ss i ≡ Some s
@@ -63,14 +55,7 @@ picked f alignment x ss = option_and_then (λ i. option_and_then f (slice_get ss
 
 named_picked : {Y : Type 0} (f : SectionTable → Option Y) (alignment x n : ℕ) (ss : List SectionTable) → n ≡ first_owner alignment x 0 ss → Covers alignment x 0 (first_owner alignment x 0 ss) ss → picked f alignment x (numbered ss n) ≡ picked f alignment x ss
 unfolding picked index_in
-named_picked f alignment x n ss e (inl none) =
-    ap (λ l. picked f alignment x l) (numbered_none ss n (e ∙ none.number))
-    ∙ sym (ap (option_and_then (λ i. option_and_then f (slice_get ss i))) (past (position_or_len (covers alignment x) ss) (length ss) none.past))
-named_picked f alignment x n ss e (inr (i, s, one)) =
-    ap (λ l. picked f alignment x l) (numbered_some ss i n (e ∙ one.number) one.inside ∙ one.named)
-    ∙ ap (option_and_then (λ k. option_and_then f (slice_get (s ∷ []) k))) (one_section alignment x s one.covered)
-    ∙ sym (ap (option_and_then f) (got ss i s one.named))
-    ∙ sym (ap (option_and_then (λ k. option_and_then f (slice_get ss k))) (at (position_or_len (covers alignment x) ss) i (length ss) one.position one.inside))
+named_picked f alignment x n ss e i = grind (arith, picked, numbered_none, past, numbered_some, one_section, got, at)
 
 range_of_picked : (b : List ℕ) (image : Image) (s : List SectionTable) (x : ℕ) → is_searched image ≡ true → range_at b image s x ≡ picked (range_in b image.file_alignment x) image.file_alignment x s
 unfolding picked index_in
@@ -80,9 +65,7 @@ range_of_picked b image s x e =
 
 section_in : (image : Image) (s : List SectionTable) (x : ℕ) → is_searched image ≡ true → section_at image s x ≡ index_in image.file_alignment x s
 unfolding index_in
-section_in image s x e =
-    let tests : (resolves image.mode ≡ true) × (is_power_of_two image.file_alignment ≡ true) = both (resolves image.mode) (is_power_of_two image.file_alignment) e in
-    rw (tests.0, tests.1) refl
+section_in image s x e = grind (arith, both)
 
 -- no entries are an index of any sections: all of them are tested
 pub none_made : (image : Image) (sections : List SectionTable) (es : List RangeEntry) → es ≡ [] → IsIndexOf image sections es
@@ -91,19 +74,8 @@ none_made image sections es e = rw e (record { maps = λ x. refl; owners = λ x.
 
 some_made : (image : Image) (sections : List SectionTable) (e : RangeEntry) (es : List RangeEntry) → is_searched image ≡ true → ((x : ℕ) → number_found (e ∷ es) x ≡ first_owner image.file_alignment x 0 sections) → IsIndexOf image sections (e ∷ es)
 unfolding sections_by
-some_made image sections e es searched numbers = record {
-  maps = λ x. offset_same (resolves image.mode) image.file_alignment x (numbered sections (number_found (e ∷ es) x)) sections (numbered_first image.file_alignment x (number_found (e ∷ es) x) sections (numbers x));
-  owners = λ x.
-      let n : ℕ = number_found (e ∷ es) x in
-      ap (option_map (λ i. n - 1)) (section_in image (numbered sections n) x searched)
-      ∙ named_index image.file_alignment x n sections (numbers x) (covers_of image.file_alignment x 0 sections)
-      ∙ sym (section_in image sections x searched);
-  ranges = λ b x.
-      let n : ℕ = number_found (e ∷ es) x in
-      range_of_picked b image (numbered sections n) x searched
-      ∙ named_picked (range_in b image.file_alignment x) image.file_alignment x n sections (numbers x) (covers_of image.file_alignment x 0 sections)
-      ∙ sym (range_of_picked b image sections x searched);
-}
+some_made image sections e es searched numbers =
+    search (rules, arith, offset_same, numbered_first, section_in, named_index, covers_of, range_of_picked, named_picked)
 
 -- the entries are those of the sections as ranges of RVAs, each of which ends before the last address
 abbrev Made : ℕ → List SectionTable → List RangeEntry → Type 0
@@ -121,10 +93,7 @@ none_past alignment x base (s ∷ ss) ends h =
 
 -- by the entries each RVA has the number of the first section that covers it
 numbers_all : (alignment x : ℕ) (ss : List SectionTable) (es : List RangeEntry) → Made alignment ss es → number_at es x ≡ first_owner alignment x 0 ss
-numbers_all alignment x ss es m = ⊎_elim
-    (λ (near : x < 2 ^ 64). m.0.numbers x near)
-    (λ (far : 2 ^ 64 ≤ x). m.0.past x far ∙ m.0.numbers (2 ^ 64 - 1) (omega arith) ∙ none_past alignment (2 ^ 64 - 1) 0 ss m.1 (omega arith) ∙ sym (none_past alignment x 0 ss m.1 (omega (arith, far))))
-    (cases_lt x (2 ^ 64))
+numbers_all alignment x ss es m = grind (arith, none_past, cases_lt)
 
 -- the entries that are made are an index
 made : (image : Image) (sections : List SectionTable) (es : List RangeEntry) → is_searched image ≡ true → Made image.file_alignment sections es → length es < 2 ^ 64 → IsIndexOf image sections es
@@ -136,27 +105,11 @@ finished image sections old new written e w = rw e w
 
 -- no section is searched
 pub unsearched : (image : Image) (sections : List SectionTable) (room : List RangeEntry) → is_searched image ≡ false → MakesIndex image sections 0 room room 0
-unsearched image sections room e =
-    let needed : entries_needed image sections ≡ 0 = ap (λ b. cond b (4 * length sections) 0) e in
-    let fits : nat_lt (length room) (entries_needed image sections) ≡ false = grind (arith, nat_tests) in
-    finished image sections room room 0 fits (record {
-      done = refl;
-      count = omega (arith, needed);
-      index = none_made image sections (take 0 room) refl;
-      rest = refl;
-    })
+unsearched image sections room e = grind (arith, nat_tests, finished, none_made)
 
 -- the index is made
 pub searched_all : (image : Image) (sections : List SectionTable) (old new : List RangeEntry) (n : ℕ) → is_searched image ≡ true → n < 2 ^ 64 → 4 * length sections ≤ length old → n ≡ 2 * length sections → Made image.file_alignment sections (take n new) → drop (2 * n) new ≡ drop (2 * n) old → MakesIndex image sections 0 old new n
-searched_all image sections old new n e small room is m rest =
-    let needed : entries_needed image sections ≡ 4 * length sections = ap (λ b. cond b (4 * length sections) 0) e in
-    let fits : nat_lt (length old) (entries_needed image sections) ≡ false = grind (arith, nat_tests) in
-    finished image sections old new n fits (record {
-      done = refl;
-      count = omega (arith, needed, is);
-      index = made image sections (take n new) e m (omega (arith, m.0.count, is, small));
-      rest = rest;
-    })
+searched_all image sections old new n e small room is m rest = grind (arith, nat_tests, finished, made)
 
 -- ---- without entries
 

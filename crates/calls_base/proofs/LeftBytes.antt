@@ -1,10 +1,9 @@
 -- The bytes of ranges, and those that are left of them.
-use Rattle.std.proofs.Common.{◌≡◌, ℕ, ◌+◌, ◌-◌, ◌≤◌, Bool, true, false, List, [], length, drop, Result, Ok, Err, refl, sym, ap, ◌∙◌, arith}
+use Rattle.std.proofs.Common.{◌≡◌, ℕ, ◌+◌, ◌-◌, ◌≤◌, Bool, true, List, [], length, drop, Ok, refl, sym, ap, ◌∙◌, arith}
 use Rattle.std.proofs.lemmas.Bool.Decides.{nat_tests}
 use Rattle.std.proofs.lemmas.List.{places}
 use Rattle.pe_core.proofs.Ranges.{length_range, rest_of_range}
 use Rattle.pe_core.specs.Bytes.{holds, range}
-use Rattle.pe_core.specs.Refusals.{Refusal, Short}
 use Rattle.calls_base.specs.Ranges.{IsRange, bytes_at}
 use Rattle.calls_base.specs.declared.ranges.Range.{Range}
 
@@ -16,8 +15,7 @@ pub nothing_there : (b : List ℕ) → range b 0 0 ≡ []
 nothing_there b = grind (arith, places)
 
 pub there : (b : List ℕ) (r : Range) (bytes : List ℕ) (inside : Bool) → holds b r.offset r.length ≡ inside → bytes_at b r ≡ Ok bytes → (r.offset + r.length ≤ length b) × (bytes ≡ range b r.offset r.length)
-there b r bytes true h e = (grind (arith, nat_tests), (let same : ◌≡◌ {A = Result (List ℕ) Refusal} (Ok (range b r.offset r.length)) (Ok bytes) = sym (rw h refl) ∙ e in cc))
-there b r bytes false h e = absurd (let same : ◌≡◌ {A = Result (List ℕ) Refusal} (Err Short) (Ok bytes) = sym (rw h refl) ∙ e in cc)
+there b r bytes inside h e = grind (arith, nat_tests)
 
 pub bytes_there : (b : List ℕ) (r : Range) → r.offset + r.length ≤ length b → bytes_at b r ≡ Ok (range b r.offset r.length)
 bytes_there b r h = let inside : holds b r.offset r.length ≡ true = grind (arith, nat_tests) in rw inside refl

@@ -1,5 +1,5 @@
 -- Two lists that go together, one of which is written entry by entry.
-use Rattle.std.proofs.Common.{ℕ, ◌+◌, ◌<◌, inl, inr, List, length, slice_index_or, slice_set, sym, subst, arith}
+use Rattle.std.proofs.Common.{ℕ, ◌+◌, ◌<◌, List, length, slice_index_or, slice_set, arith}
 use Rattle.std.proofs.lemmas.Bool.{cases_eq}
 use Rattle.std.proofs.lemmas.List.{get_or_default, get_or-set_other, get_or-set_same}
 
@@ -7,9 +7,4 @@ use Rattle.std.proofs.lemmas.List.{get_or_default, get_or-set_other, get_or-set_
 pub one_more : {A N : Type 0} (P : A → N → Type 0) (xs : List A) (ys : List N) (i : ℕ) (x : A) (y : N) → i < length xs → i < length ys →
     ((k : ℕ) (a : A) (n : N) → k < i → P (slice_index_or xs k a) (slice_index_or ys k n)) → P (slice_index_or xs i x) y →
     (k : ℕ) (a : A) (n : N) → k < i + 1 → P (slice_index_or xs k a) (slice_index_or (slice_set ys i y) k n)
-one_more {A} {N} P xs ys i x y in_xs in_ys before is k a n lt = elim (cases_eq k i) [
-  | inl same ↦
-      subst (λ (j : ℕ). P (slice_index_or xs j a) (slice_index_or (slice_set ys i y) j n)) (sym same)
-      (subst (λ (m : N). P (slice_index_or xs i a) m) (sym (get_or-set_same ys i y n in_ys)) (subst (λ (b : A). P b y) (get_or_default xs i x a in_xs) is))
-  | inr other ↦ subst (λ (m : N). P (slice_index_or xs k a) m) (sym (get_or-set_other ys i k y n other)) (before k a n (grind (arith, lt, other)))
-]
+one_more P xs ys i x y in_xs in_ys before is k a n lt = grind (arith, cases_eq, get_or-set_same, get_or_default, get_or-set_other)

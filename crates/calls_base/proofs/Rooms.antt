@@ -1,5 +1,5 @@
 -- A room that is filled from its beginning.
-use Rattle.std.proofs.Common.{◌≡◌, ℕ, ◌+◌, Bool, true, false, List, [], ◌++◌, length, take, drop, slice_set, Ok, refl, arith}
+use Rattle.std.proofs.Common.{◌≡◌, ℕ, ◌+◌, Bool, true, List, [], ◌++◌, length, take, drop, slice_set, Ok, arith}
 use Rattle.std.specs.Prelude.{nat_le}
 use Rattle.std.proofs.lemmas.Bool.Decides.{nat_tests}
 use Rattle.std.proofs.lemmas.List.{drop-set-lt, take-append-drop}
@@ -16,8 +16,7 @@ joined xs front back n e f = let whole : take n xs ++ drop n xs ≡ xs = take-ap
 
 -- no sections leave the room as it was
 pub by_room : (fits : Bool) (room : List SectionTable) → fits ≡ true → PutsIf fits 0 room room (Ok [])
-by_room true room e = (refl, refl)
-by_room false room e = absurd cc
+by_room fits room e = grind arith
 
 pub no_sections : (b : List ℕ) (offset count : ℕ) (room : List SectionTable) → count ≡ 0 → PutsSectionsAt b offset count 0 room room
 unfolding each

@@ -1,5 +1,5 @@
 -- What whole runs of any walk tell.
-use Rattle.std.proofs.Common.{◌≡◌, List, [], ◌∷◌, ◌++◌, map, Option, Some, None, Result, Ok, Err, refl, sym, ap, subst, ◌∙◌}
+use Rattle.std.proofs.Common.{◌≡◌, List, [], ◌∷◌, ◌++◌, map, Option, Some, None, Result, Ok, Err, ap, ◌∙◌, arith}
 use Rattle.pe_core.specs.Gathered.{with_rest}
 use Rattle.pe_core.specs.Refusals.{Refusal}
 use Rattle.calls_base.specs.Runs.{ReturnsItems, ReturnsReported, IsOver}
@@ -14,22 +14,13 @@ makes_by {W} {X} step walk next given is answer v s = (ap (λ (p : Result (Optio
 
 pub gives_first : {W X R : Type 0} (Steps : W → Result (Option X) R → W → Type 0) (walk next : W) (x : X) (items : List (Result X R)) → Makes Steps walk (Ok (Some x)) next →
     ReturnsItems Steps next items → ReturnsItems Steps walk (Ok x ∷ items)
-gives_first {W} Steps walk next x items makes more = λ answer v s.
-    let given = makes answer v s in
-    (given.0, subst (λ (u : W). ReturnsItems Steps u items) (sym given.1) more)
+gives_first Steps walk next x items makes more = grind arith
 
 pub gives_nothing : {W X R : Type 0} (Steps : W → Result (Option X) R → W → Type 0) (walk next : W) → Makes Steps walk (Ok None) next → IsOver Steps next → ReturnsItems Steps walk []
-gives_nothing {W} Steps walk next makes over = λ answer v s.
-    let given = makes answer v s in
-    (given.0, subst (λ (u : W). IsOver Steps u) (sym given.1) over)
+gives_nothing Steps walk next makes over = grind arith
 
 pub gives_refusal : {W X R : Type 0} (Steps : W → Result (Option X) R → W → Type 0) (walk next : W) (e : R) → Makes Steps walk (Err e) next → IsOver Steps next → ReturnsItems Steps walk (Err e ∷ [])
-gives_refusal {W} Steps walk next e makes over = (
-  refl,
-  λ answer v s.
-      let given = makes answer v s in
-      (given.0, subst (λ (u : W). IsOver Steps u) (sym given.1) over),
-)
+gives_refusal Steps walk next e makes over = grind arith
 
 pub reports_more : {W X Y : Type 0} (Steps : W → Result (Option X) Refusal → W → Type 0) (Reports : X → Y → Type 0) (walk next : W) (x : X) (y : Y) (rest : Result (List Y) Refusal) →
     Makes Steps walk (Ok (Some x)) next → Reports x y → ReturnsReported Steps Reports next rest → ReturnsReported Steps Reports walk (with_rest (y ∷ []) rest)

@@ -1,6 +1,5 @@
 -- Texts in UTF-16 character by character, and texts that are written one after the other.
-use Rattle.std.proofs.Common.{◌≡◌, ℕ, ◌+◌, ◌/◌, ◌<◌, ◌≤◌, Bool, true, false, List, [], ◌∷◌, ◌++◌, length, drop, get_or, Option, Some, None, append_assoc, length-append, length-drop, map, min, take, nat_lt, ◌-◌, ◌==◌, refl, sym, ap, subst, ◌∙◌, arith}
-use Rattle.std.specs.Prelude.{◌&&◌, nat_le, if◌then◌else◌}
+use Rattle.std.proofs.Common.{◌≡◌, ℕ, ◌+◌, ◌/◌, ◌<◌, ◌≤◌, true, List, [], ◌∷◌, ◌++◌, length, drop, get_or, Option, Some, None, append_assoc, length-append, length-drop, map, min, take, nat_lt, ◌-◌, sym, ap, ◌∙◌, arith}
 use Rattle.std.proofs.lemmas.Bool.Decides.{nat_tests}
 use Rattle.std.proofs.lemmas.List.{places, same_lists}
 use Rattle.std.proofs.lemmas.Str.{utf16_chars_lone, utf16_chars_pair}
@@ -25,11 +24,7 @@ second_unit b h =
     ap (λ (us : List ℕ). get_or us 1 0) (sym (front b some)) ∙ unit_at b 1 two
 
 no_second : (b : List ℕ) → length b < 4 → get_or (units (drop 2 b)) 0 0 ≡ 0
-no_second [] h = refl
-no_second (x ∷ []) h = refl
-no_second (x ∷ y ∷ []) h = refl
-no_second (x ∷ y ∷ z ∷ []) h = refl
-no_second (x ∷ y ∷ z ∷ w ∷ b) h = absurd (omega arith)
+no_second b h = grind arith
 
 -- ---- the first character
 
@@ -39,60 +34,23 @@ AreAPair b = (0xD800 ≤ le b 0 2) × (le b 0 2 < 0xDC00) × (0xDC00 ≤ get_or 
 has_second : (b : List ℕ) (v : ℕ) → 0xD800 ≤ le b 0 2 → le b 0 2 < 0xDC00 → 4 ≤ length b → 0xDC00 ≤ le b 2 2 → le b 2 2 < 0xE000 → second_of b ≡ Some (le b 2 2)
 has_second b v high below long low least = grind (arith, nat_tests)
 
-no_pair_by : (b : List ℕ) (long : Bool) → nat_le 4 (length b) ≡ long → second_of b ≡ None → AreAPair b → ⊥
-no_pair_by b true t e p =
-    let long : 4 ≤ length b = grind (arith, nat_tests) in
-    let low : get_or (units (drop 2 b)) 0 0 ≡ le b 2 2 = second_unit b long in
-    let some : second_of b ≡ Some (le b 2 2) = has_second b 0 p.0 p.1 long (subst (λ (v : ℕ). 0xDC00 ≤ v) low p.2) (subst (λ (v : ℕ). v < 0xE000) low p.3) in
-    let none : ◌≡◌ {A = Option ℕ} None (Some (le b 2 2)) = sym e ∙ some in
-    absurd (cc (none))
-no_pair_by b false t e p =
-    let short : length b < 4 = grind (arith, nat_tests) in
-    let none : get_or (units (drop 2 b)) 0 0 ≡ 0 = no_second b short in
-    let low : 0xDC00 ≤ get_or (units (drop 2 b)) 0 0 = p.2 in
-    omega (arith, none, low)
-
 abbrev lossy : List (Option ℕ) → List ℕ
 lossy cs = map (λ o. unwrap_or o 0xFFFD) cs
 
 pub first_alone : (b : List ℕ) → 2 ≤ length b → second_of b ≡ None → utf16_lossy_chars (units b) ≡ unwrap_or (lone_unit_char (le b 0 2)) 0xFFFD ∷ utf16_lossy_chars (units (drop 2 b))
-first_alone b h e = ap utf16_lossy_chars (front b h) ∙ ap lossy (utf16_chars_lone (le b 0 2) (units (drop 2 b)) (no_pair_by b (nat_le 4 (length b)) refl e))
-
-second_is : (b : List ℕ) (high long low : Bool) (v : ℕ) → is_high_surrogate (le b 0 2) ≡ high → nat_le 4 (length b) ≡ long → is_low_surrogate (le b 2 2) ≡ low →
-    ◌≡◌ {A = Option ℕ} (if high && (long && low) then Some (le b 2 2) else None) (Some v) → (is_high_surrogate (le b 0 2) ≡ true) × (4 ≤ length b) × (is_low_surrogate (le b 2 2) ≡ true) × (v ≡ le b 2 2)
-second_is b true true true v h l t e = (h, grind (arith, nat_tests), t, cc (e))
-second_is b false long low v h l t e = absurd (cc (e))
-second_is b true false low v h l t e = absurd (cc (e))
-second_is b true true false v h l t e = absurd (cc (e))
+first_alone b h e = grind (arith, front, utf16_chars_lone, nat_tests, second_unit, has_second, no_second)
 
 pub second_there : (b : List ℕ) (v : ℕ) → second_of b ≡ Some v → (is_high_surrogate (le b 0 2) ≡ true) × (4 ≤ length b) × (is_low_surrogate (le b 2 2) ≡ true) × (v ≡ le b 2 2)
-second_there b v e = second_is b (is_high_surrogate (le b 0 2)) (nat_le 4 (length b)) (is_low_surrogate (le b 2 2)) v refl refl refl e
+second_there b v e = grind (arith, nat_tests)
 
 drop_four : (b : List ℕ) → drop 2 (drop 2 b) ≡ drop 4 b
-drop_four [] = refl
-drop_four (x ∷ []) = refl
-drop_four (x ∷ y ∷ []) = refl
-drop_four (x ∷ y ∷ z ∷ []) = refl
-drop_four (x ∷ y ∷ z ∷ w ∷ b) = refl
+drop_four b = grind arith
 
 same_second : (b : List ℕ) → 4 ≤ length b → le (drop 2 b) 0 2 ≡ le b 2 2
 same_second b h = le-same (drop 2 b) b 0 2 2 (λ k lt. grind (arith, places))
 
-two_units : (b : List ℕ) → 4 ≤ length b → units b ≡ le b 0 2 ∷ le b 2 2 ∷ units (drop 4 b)
-two_units b h =
-    let some : 2 ≤ length b = omega (arith, h) in
-    let more : 2 ≤ length (drop 2 b) = omega (arith, h, length-drop 2 b) in
-    let next : le (drop 2 b) 0 2 ≡ le b 2 2 = same_second b h in
-    front b some ∙ ap (λ (us : List ℕ). le b 0 2 ∷ us) (front (drop 2 b) more ∙ ap (λ (n : ℕ). n ∷ units (drop 2 (drop 2 b))) next ∙ ap (λ (d : List ℕ). le b 2 2 ∷ units d) (drop_four b))
-
 pub first_pair : (b : List ℕ) (v : ℕ) → second_of b ≡ Some v → utf16_lossy_chars (units b) ≡ surrogate_pair_char (le b 0 2) v ∷ utf16_lossy_chars (units (drop 4 b))
-first_pair b v e =
-    let at = second_there b v e in
-    let high : is_high_surrogate (le b 0 2) ≡ true = at.0 in
-    let low : is_low_surrogate (le b 2 2) ≡ true = at.2 in
-    let pair : (0xD800 ≤ le b 0 2) × (le b 0 2 < 0xDC00) × (0xDC00 ≤ le b 2 2) × (le b 2 2 < 0xE000) = (grind (arith, nat_tests), grind (arith, nat_tests), grind (arith, nat_tests), grind (arith, nat_tests)) in
-    ap utf16_lossy_chars (two_units b at.1) ∙ ap lossy (utf16_chars_pair (le b 0 2) (le b 2 2) (units (drop 4 b)) pair)
-    ∙ ap (λ (n : ℕ). surrogate_pair_char (le b 0 2) n ∷ utf16_lossy_chars (units (drop 4 b))) (sym at.3)
+first_pair b v e = grind (arith, second_there, nat_tests, utf16_chars_pair, length-drop, same_second, front, drop_four)
 
 -- ---- the text in UTF-8
 
@@ -106,9 +64,7 @@ more_length b c n e = ap length (more_text b c n e) ∙ length-append (encode_ut
 
 pub no_text : (b : List ℕ) → length b < 2 → utf16_text b ≡ []
 unfolding utf16_text utf16_chars
-no_text [] h = refl
-no_text (x ∷ []) h = refl
-no_text (x ∷ y ∷ b) h = absurd (omega arith)
+no_text b h = grind arith
 
 -- ---- what is written
 
@@ -127,24 +83,13 @@ pub next_character : (room all rest : List ℕ) (at c n : ℕ) → utf16_lossy_c
     (splice (splice room at (encode_utf8 c)) (at + length (encode_utf8 c)) (ended (utf16_text (drop n rest))) ≡ all)
     × (at + length (encode_utf8 c) + length (utf16_text (drop n rest)) < length (splice room at (encode_utf8 c)))
     × (at + length (encode_utf8 c) ≤ length room)
-next_character room all rest at c n e h fits =
-    let size : length (utf16_text rest) ≡ length (encode_utf8 c) + length (utf16_text (drop n rest)) = more_length rest c n e in
-    let there : at + length (encode_utf8 c) ≤ length room = omega (arith, size, fits) in
-    let same : length (splice room at (encode_utf8 c)) ≡ length room = length-splice room at (encode_utf8 c) there in
-    let whole : splice room at (ended (encode_utf8 c ++ utf16_text (drop n rest))) ≡ all = ap (λ (t : List ℕ). splice room at (ended t)) (sym (more_text rest c n e)) ∙ h in
-    let before : at ≤ length room = omega (arith, there) in
-    (one_more room all at (encode_utf8 c) (utf16_text (drop n rest)) whole before, omega (arith, size, fits, same), there)
+next_character room all rest at c n e h fits = grind (arith, more_length, length-splice, more_text, one_more)
 
 -- ---- whether there is room
 
 pub has_room : (text old : List ℕ) → length text < length old → nat_lt (length text) (length old) ≡ true
 has_room text old h = grind (arith, nat_tests)
 
-same_take : (text : List ℕ) (count k : ℕ) → count ≡ min (length text) k → take count text ≡ take k text
-same_take text count k e = same_lists _ _ (grind (arith, places)) (λ j d lt. grind (arith, places))
-
 -- a text that is cut where the room ends
 pub cut_is : (old text : List ℕ) (count : ℕ) → 0 < length old → count ≡ min (length text) (length old - 1) → splice old 0 (ended (take count text)) ≡ truncated_text old text
-cut_is old text count some e =
-    let there : (length old == 0) ≡ false = grind (arith, nat_tests) in
-    rw there (ap (λ (t : List ℕ). splice old 0 (ended t)) (same_take text count (length old - 1) e))
+cut_is old text count some e = grind (arith, nat_tests, same_lists, places)

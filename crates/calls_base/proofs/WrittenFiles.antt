@@ -1,5 +1,5 @@
 -- Files that calls write to a room: what a call returns after an attempt, and after it has asked for the length.
-use Rattle.std.proofs.Common.{◌≡◌, ℕ, Bool, true, false, List, [], ◌∷◌, length, Result, Ok, Err, refl, sym, subst, arith, if◌then◌else◌}
+use Rattle.std.proofs.Common.{◌≡◌, ℕ, Bool, List, [], ◌∷◌, length, Result, Ok, Err, refl, arith, if◌then◌else◌}
 use Rattle.std.specs.Prelude.{nat_le}
 use Rattle.std.proofs.lemmas.Bool.Decides.{nat_tests}
 use Rattle.pe_core.specs.Bytes.{splice}
@@ -7,26 +7,14 @@ use Rattle.calls_base.specs.WrittenFiles.{HandsOutFile, HandsOutLength, NumberRe
 
 -- the call returned what is defined
 returned : (given defined : Result ℕ ℕ) → NumberReturns (λ n. n) given defined → given ≡ defined
-returned (Ok n) defined h = sym h
-returned (Err e) defined h = sym h
-
-short_by : (fits : Bool) (f old new : List ℕ) (number e : ℕ) → ◌≡◌ {A = Result (ℕ × List ℕ) ℕ} (if fits then Ok (length f, splice old 0 f) else Err 37) (Err e) → new ≡ old → number ≡ (if fits then 0 else 101) → PutsFileIf fits f number old new
-short_by true f old new number e h same n = absurd cc
-short_by false f old new number e h same n = (n, same)
+returned given defined h = grind arith
 
 asked_after : (file : Result (List ℕ) ℕ) (number out after e : ℕ) (old new : List ℕ) → written_numbered file old ≡ Err e → new ≡ old → HandsOutLength number out after (length old) (length_numbered file) → HandsOutFile number out after old new file
-asked_after (Ok f) number out after e old new h same l = (short_by (nat_le (length f) (length old)) f old new number e h same l.0, l.1)
-asked_after (Err q) number out after e old new h same l = (l.0, l.1, same)
-
--- one that is not written, and whose length is asked for then
-pub file_short : (file : Result (List ℕ) ℕ) (given : Result ℕ ℕ) (number out after e : ℕ) (old new : List ℕ) → written_numbered file old ≡ Err e → new ≡ old → NumberReturns (λ n. n) given (length_numbered file) → HandsOutLength number out after (length old) given → HandsOutFile number out after old new file
-file_short file given number out after e old new h same r l =
-    asked_after file number out after e old new h same (subst (HandsOutLength number out after (length old)) (returned given (length_numbered file) r) l)
+asked_after file number out after e old new h same l = grind arith
 
 -- the same by the room after the attempt
 pub file_short_after : (file : Result (List ℕ) ℕ) (given : Result ℕ ℕ) (number out after e : ℕ) (old new : List ℕ) → written_numbered file old ≡ Err e → new ≡ old → NumberReturns (λ n. n) given (length_numbered file) → HandsOutLength number out after (length new) given → HandsOutFile number out after old new file
-file_short_after file given number out after e old new h same r l =
-    file_short file given number out after e old new h same r (subst (λ (room : List ℕ). HandsOutLength number out after (length room) given) same l)
+file_short_after file given number out after e old new h same r l = grind (arith, asked_after, returned)
 
 nothing : (f : List ℕ) → length f ≡ 0 → [] ≡ splice [] 0 f
 unfolding splice
@@ -34,8 +22,7 @@ nothing [] e = refl
 nothing (x ∷ f) e = absurd (omega (arith, e))
 
 empty_by : (fits : Bool) (f : List ℕ) (number : ℕ) → nat_le (length f) 0 ≡ fits → number ≡ (if fits then 0 else 101) → PutsFileIf fits f number [] []
-empty_by true f number e n = (n, nothing f (grind (arith, nat_tests)))
-empty_by false f number e n = (n, refl)
+empty_by fits f number e n = grind (arith, nothing, nat_tests)
 
 asked_first : (file : Result (List ℕ) ℕ) (number out after : ℕ) (old : List ℕ) → length old ≡ 0 → HandsOutLength number out after 0 (length_numbered file) → HandsOutFile number out after old old file
 asked_first (Ok f) number out after [] e l = (empty_by (nat_le (length f) 0) f number refl l.0, l.1)
@@ -44,5 +31,4 @@ asked_first (Err q) number out after old e l = (l.0, l.1, refl)
 
 -- one whose length is asked for without room
 pub file_asked : (file : Result (List ℕ) ℕ) (given : Result ℕ ℕ) (number out after : ℕ) (old : List ℕ) → length old ≡ 0 → NumberReturns (λ n. n) given (length_numbered file) → HandsOutLength number out after 0 given → HandsOutFile number out after old old file
-file_asked file given number out after old e r l =
-    asked_first file number out after old e (subst (HandsOutLength number out after 0) (returned given (length_numbered file) r) l)
+file_asked file given number out after old e r l = grind (arith, asked_first, returned)

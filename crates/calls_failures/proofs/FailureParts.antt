@@ -1,16 +1,15 @@
 -- A failure of headers is the refusal of the call that reads them.
-use Rattle.std.proofs.Common.{◌≡◌, ℕ, ◌+◌, ◌-◌, ◌*◌, Bool, true, false, List, [], ◌∷◌, ◌++◌, Option, Some, None, Result, Ok, Err, refl, ap, subst, arith}
+use Rattle.std.proofs.Common.{◌≡◌, ℕ, ◌+◌, ◌-◌, Bool, List, [], ◌∷◌, ◌++◌, Option, Some, None, Result, Ok, Err, refl, subst, arith}
 use Rattle.std.specs.Prelude.{◌==◌, ◌||◌, nat_le, if◌then◌else◌}
 use Rattle.pe_core.specs.Bytes.{le, holds}
-use Rattle.pe_core.specs.Directories.{kept}
-use Rattle.pe_core.specs.Header.{header, header_at, header_tests, is_pe32_plus, optional_header, optional_header_tests}
+use Rattle.pe_core.specs.Header.{header_at, header_tests, is_pe32_plus, optional_header, optional_header_tests}
 use Rattle.pe_core.specs.Options.{is_permissive}
 use Rattle.pe_core.specs.Records.{coff_header, dos_header, te_header, windows_fields_32, windows_fields_64}
 use Rattle.pe_core.specs.Refusals.{Refusal, Short, BadMagic, HeaderPointer, outcome, ◌>>=◌}
-use Rattle.pe_core.specs.Rows.{rows, rows_at}
+use Rattle.pe_core.specs.Rows.{rows_at}
 use Rattle.pe_core.specs.TeImages.{reduced_header, te_header_of, te_tests}
 use Rattle.pe_core.specs.declared.options.ParseMode.{ParseMode}
-use Rattle.calls_failures.specs.Failures.{Explains, dos_failures, fields_size, first_failure, header_failure, image_failure, optional_failure, optional_failures, or_later, pe_failures, rows_failures, te_failures}
+use Rattle.calls_failures.specs.Failures.{Explains, fields_size, first_failure, header_failure, image_failure, optional_failures, or_later, rows_failures, te_failures}
 use Rattle.calls_base.specs.HandsOut.{result_number}
 use Rattle.calls_base.specs.Images.{image_at, image_info_of}
 use Rattle.calls_base.specs.Modes.{mode_of_number}
@@ -28,21 +27,16 @@ Alike (t ∷ ts) (f ∷ fs) = (t.0 ≡ f.0) × (f.1.result ≡ result_number t.1
 
 one : {X : Type 0} (t u : Bool) (r : Refusal) (f : Failure) (rest : Result X Refusal) (first later : Option Failure) → t ≡ u → f.result ≡ result_number r → Explains rest (or_later first later) →
     Explains (if t then rest else Err r) (or_later (if u then first else Some f) later)
-one true true r f rest first later e same more = more
-one false false r f rest first later e same more = same
-one true false r f rest first later e same more = absurd cc
-one false true r f rest first later e same more = absurd cc
+one t u r f rest first later e same more = grind arith
 
 explained : {X : Type 0} (ts us : List (Bool × Refusal)) (fs : List (Bool × Failure)) (later : Option Failure) (x : X) → Alike ts fs → Explains (outcome us x) later →
     Explains (outcome (ts ++ us) x) (or_later (first_failure fs) later)
-explained [] us [] later x a e = e
-explained [] us (f ∷ fs) later x a e = absurd a
+explained [] us fs later x a e = grind arith
 explained (t ∷ ts) us [] later x a e = absurd a
 explained (t ∷ ts) us (f ∷ fs) later x a e = one t.0 f.0 t.1 f.1 (outcome (ts ++ us) x) (first_failure fs) later a.0 a.1 (explained ts us fs later x a.2 e)
 
 or_none : (f : Option Failure) → or_later f None ≡ f
-or_none None = refl
-or_none (Some f) = refl
+or_none f = grind arith
 
 last : {X : Type 0} (ts : List (Bool × Refusal)) (fs : List (Bool × Failure)) (x : X) → ts ++ [] ≡ ts → Alike ts fs → Explains (outcome ts x) (first_failure fs)
 last ts fs x same a =
@@ -50,29 +44,17 @@ last ts fs x same a =
     (subst (λ (f : Option Failure). Explains (outcome (ts ++ []) x) f) (or_none (first_failure fs)) (explained ts [] fs None x a tt))
 
 mapped : {X Y : Type 0} (r : Result X Refusal) (f : Option Failure) (g : X → Y) → Explains r f → Explains (r >>= λ x. Ok (g x)) f
-mapped (Ok x) None g e = tt
-mapped (Ok x) (Some f) g e = e
-mapped (Err r) None g e = e
-mapped (Err r) (Some f) g e = e
+mapped r f g e = grind arith
 
 -- ---- the optional header
 
 count_by : (b : List ℕ) (p : ℕ) (wide : Bool) → is_pe32_plus b p ≡ wide → (optional_header b p).windows_fields.number_of_rva_and_sizes ≡ le b (p + (fields_size b p - 4)) 4
 unfolding optional_header windows_fields_32 windows_fields_64
-count_by b p true h = rw h (ap (λ (q : ℕ). le b q 4) (omega arith))
-count_by b p false h = rw h (ap (λ (q : ℕ). le b q 4) (omega arith))
+count_by b p wide h = grind arith
 
 fields : {X : Type 0} (b : List ℕ) (p : ℕ) (x : X) → Explains (outcome (optional_header_tests b p) x) (first_failure (optional_failures b p))
 unfolding optional_header_tests
-fields b p x =
-    last (optional_header_tests b p) (optional_failures b p) x refl
-    (refl, refl, (refl, refl, (refl, refl, (ap (λ (n : ℕ). holds b (p + fields_size b p) (8 * kept n)) (count_by b p (is_pe32_plus b p) refl), refl, tt))))
-
-unless_none : {X : Type 0} (b : List ℕ) (p : ℕ) (x : X) (t u : Bool) → t ≡ u → Explains (outcome (if t then [] else optional_header_tests b p) x) (if u then None else first_failure (optional_failures b p))
-unless_none b p x true true e = tt
-unless_none b p x false false e = fields b p x
-unless_none b p x true false e = absurd cc
-unless_none b p x false true e = absurd cc
+fields b p x = grind (arith, last, count_by)
 
 -- ---- all headers
 
@@ -88,14 +70,7 @@ pe_tests b p = (holds b p 4, Short) ∷ (le b p 4 == 0x4550, BadMagic) ∷ (hold
 
 headers : (b : List ℕ) (mode : ParseMode) → Explains (header_at b mode) (header_failure b mode)
 unfolding header_at header_tests header_failure dos_header coff_header
-headers b mode =
-    let p = le b 60 4 in
-    let optional = if le b (p + 4 + 16) 2 == 0 then [] else optional_header_tests b (p + 24) in
-    explained (dos_tests b mode) (pe_tests b p ++ optional) (dos_failures b mode) (or_later (first_failure (pe_failures b p)) (optional_failure b (p + 24))) (header b)
-    (refl, refl, (refl, refl, (refl, refl, tt)))
-    (explained (pe_tests b p) optional (pe_failures b p) (optional_failure b (p + 24)) (header b)
-    (refl, refl, (refl, refl, (refl, refl, tt)))
-    (unless_none b (p + 24) (header b) (le b (p + 4 + 16) 2 == 0) (le b (p + 24 - 4) 2 == 0) (ap (λ (q : ℕ). le b q 2 == 0) (omega arith))))
+headers b mode = grind (arith, explained, fields)
 
 pub failures_of_images : (b : List ℕ) (mode : ℕ) → Explains (image_at b mode) (image_failure b mode)
 failures_of_images b mode = mapped (header_at b (mode_of_number mode)) (image_failure b mode) (image_info_of mode) (headers b (mode_of_number mode))
@@ -103,14 +78,12 @@ failures_of_images b mode = mapped (header_at b (mode_of_number mode)) (image_fa
 -- ---- section headers
 
 pub failures_of_rows : {X : Type 0} (item : List ℕ → ℕ → X) (b : List ℕ) (p count : ℕ) → Explains (rows_at item 40 b p count) (first_failure (rows_failures b p count))
-failures_of_rows item b p count =
-    last ((count == 0 || holds b p (40 * count), Short) ∷ []) (rows_failures b p count) (rows (item b) 40 p count) refl (refl, refl, tt)
+failures_of_rows item b p count = grind (arith, last)
 
 -- ---- the header of a TE image
 
-te_headers : (b : List ℕ) → Explains (te_header_of b) (first_failure (te_failures b))
-unfolding te_header_of te_tests te_failures
-te_headers b = last (te_tests b) (te_failures b) (reduced_header (te_header b 0)) refl (refl, refl, (refl, refl, (refl, refl, tt)))
-
 pub failures_of_te_images : (b : List ℕ) → Explains (te_image_at b) (first_failure (te_failures b))
-failures_of_te_images b = mapped (te_header_of b) (first_failure (te_failures b)) te_image_of (te_headers b)
+unfolding te_header_of te_tests te_failures
+failures_of_te_images b =
+    mapped (te_header_of b) (first_failure (te_failures b)) te_image_of
+    (last (te_tests b) (te_failures b) (reduced_header (te_header b 0)) refl (refl, refl, (refl, refl, (refl, refl, tt))))

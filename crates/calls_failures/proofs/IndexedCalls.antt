@@ -1,10 +1,8 @@
 -- What is read at an RVA depends on the sections by its offset alone; so it is the same by an index of the sections, which maps the RVA
 -- as they do.
-use Rattle.std.proofs.Common.{◌≡◌, ℕ, ◌-◌, Bool, true, false, List, Option, None, Result, Ok, ap, ◌∙◌, subst}
+use Rattle.std.proofs.Common.{◌≡◌, ℕ, Bool, true, false, List, Option, None, Result, subst, arith}
 use Rattle.std.proofs.Math.Path.{fun_ext}
-use Rattle.std.specs.Option.{option_map}
-use Rattle.std.specs.Prelude.{unwrap_or}
-use Rattle.pe_core.specs.Refusals.{Refusal, ◌>>=◌}
+use Rattle.pe_core.specs.Refusals.{Refusal}
 use Rattle.pe_core.specs.declared.byte_range.ByteRange.{ByteRange}
 use Rattle.pe_core.specs.declared.section_table.SectionTable.{SectionTable}
 use Rattle.pe_directories.specs.Clr.{clr_header}
@@ -12,20 +10,19 @@ use Rattle.pe_directories.specs.ImageParts.{offset_of_va}
 use Rattle.pe_directories.specs.LoadConfig.{load_config}
 use Rattle.pe_directories.specs.Tls.{tls_directory}
 use Rattle.pe_directories.specs.declared.clr.ClrHeader.{ClrHeader}
-use Rattle.pe_directories.specs.declared.load_config.LoadConfig.{LoadConfig}
 use Rattle.pe_directories.specs.declared.tls.TlsDirectory.{TlsDirectory}
 use Rattle.pe_records.specs.DebugDirectory.{directory_range, directory_table}
-use Rattle.pe_resource.specs.Directories.{directory_at, directory_at_offset}
-use Rattle.pe_resource.specs.Contents.{IsContentRange, file_bytes}
+use Rattle.pe_resource.specs.Directories.{directory_at}
+use Rattle.pe_resource.specs.Contents.{IsContentRange}
 use Rattle.pe_resource.specs.ResourceEntries.{entries}
-use Rattle.pe_resource.specs.Resources.{FirstDirectoryView, IsOfFirst, first_directory, first_entries_in}
+use Rattle.pe_resource.specs.Resources.{FirstDirectoryView, IsOfFirst, first_directory}
 use Rattle.pe_unwind.specs.ExceptionTable.{exception_at}
 use Rattle.calls_directories.specs.Clr.{clr_header_at, clr_metadata_at}
 use Rattle.calls_headers.specs.Debug.{debug_entries_range, first_entry}
 use Rattle.calls_base.specs.Directories.{callbacks_at, image_parts, table_at, tls_at, va_offset}
 use Rattle.calls_failures.specs.DirectoryFailures.{directory_refusal}
 use Rattle.calls_directories.specs.DirectoryTables.{root_at}
-use Rattle.calls_directories.specs.GuardTables.{entries_of, guard_table_at, place_of}
+use Rattle.calls_directories.specs.GuardTables.{guard_table_at}
 use Rattle.calls_base.specs.Images.{directory, is_absent, map_by, map_of_image, resource_directory}
 use Rattle.calls_base.specs.Modes.{options_of}
 use Rattle.calls_directories.specs.LoadConfigs.{load_config_at, numbered_field_at}
@@ -35,7 +32,6 @@ use Rattle.calls_base.specs.SectionIndexes.{HasIndex, SameByAny, SameByIndex}
 use Rattle.calls_unwind.specs.Unwinding.{exception_table_at}
 use Rattle.calls_directories.specs.Versions.{IsContentBy, IsContentOf}
 use Rattle.calls_base.specs.Views.{directory_sections, may_map}
-use Rattle.calls_directories.specs.declared.directories.guard_tables.Place.{Place}
 use Rattle.calls_base.specs.declared.image.Image.{Image}
 use Rattle.calls_base.specs.declared.view.View.{View}
 
@@ -49,17 +45,11 @@ Alike call i = (b : List ℕ) (image : Image) (s t : List SectionTable) →
 by_index : {Y : Type 0} (call : List ℕ → Image → List SectionTable → Y) (i : ℕ) → Alike call i → SameByIndex call i
 by_index call i same v h = same v.bytes.now v.image.now (directory_sections v i) v.sections.now (h.maps (directory v.image.now i).virtual_address)
 
-tables_alike : (i : ℕ) → Alike (table_at i) i
-tables_alike i b image s t e = let same : table_at i b image s ≡ table_at i b image t = cc in same
-
 pub tables : (i : ℕ) → SameByIndex (table_at i) i
-tables i = by_index (table_at i) i (tables_alike i)
-
-relocations_alike : (difference : ℕ) (old : List ℕ) → Alike (λ b image s. relocated_by b image s difference old) 5
-relocations_alike difference old b image s t e = let same : relocated_by b image s difference old ≡ relocated_by b image t difference old = cc in same
+tables i = grind (arith, by_index)
 
 pub relocations : (difference : ℕ) (old : List ℕ) → SameByIndex (λ b image s. relocated_by b image s difference old) 5
-relocations difference old = by_index (λ b image s. relocated_by b image s difference old) 5 (relocations_alike difference old)
+relocations difference old = grind (arith, by_index)
 
 tls_alike : Alike tls_at 9
 unfolding tls_directory
@@ -73,17 +63,11 @@ config_alike : (b : List ℕ) (image : Image) (s t : List SectionTable) →
 unfolding load_config
 config_alike b image s t e = let same : load_config (image_parts b image s) (directory image 10) ≡ load_config (image_parts b image t) (directory image 10) = cc in same
 
-load_configs_alike : Alike load_config_at 10
-load_configs_alike b image s t e = let config = config_alike b image s t e in let same : load_config_at b image s ≡ load_config_at b image t = cc in same
-
 pub load_configs : SameByIndex load_config_at 10
-load_configs = by_index load_config_at 10 load_configs_alike
-
-fields_alike : (n : ℕ) → Alike (numbered_field_at n) 10
-fields_alike n b image s t e = let config = config_alike b image s t e in let same : numbered_field_at n b image s ≡ numbered_field_at n b image t = cc in same
+load_configs = grind (arith, by_index, config_alike)
 
 pub fields : (n : ℕ) → SameByIndex (numbered_field_at n) 10
-fields n = by_index (numbered_field_at n) 10 (fields_alike n)
+fields n = grind (arith, by_index, config_alike)
 
 clr_headers_alike : Alike clr_header_at 14
 unfolding clr_header
@@ -117,12 +101,7 @@ first_alike : (b : List ℕ) (image : Image) (s t : List SectionTable) →
     map_of_image image s (resource_directory image).virtual_address ≡ map_of_image image t (resource_directory image).virtual_address →
     first_directory (options_of image.mode) b (resource_directory image) s image.file_alignment ≡ first_directory (options_of image.mode) b (resource_directory image) t image.file_alignment
 unfolding first_directory directory_at
-first_alike b image s t e =
-    ap (λ (p : Option ℕ).
-    directory_at_offset b p >>= λ d.
-    file_bytes b (resource_directory image).size p >>= λ bytes.
-    first_entries_in (options_of image.mode).parse_mode bytes d >>= λ table.
-    Ok (option_map (λ t. record { directory = d; bytes = bytes; entries = entries t }) table)) e
+first_alike b image s t e = grind arith
 
 leaves_alike : Alike leaves_start 2
 leaves_alike b image s t e = let first = first_alike b image s t e in let same : leaves_start b image s ≡ leaves_start b image t = cc in same
@@ -130,55 +109,26 @@ leaves_alike b image s t e = let first = first_alike b image s t e in let same :
 pub leaves : SameByIndex leaves_start 2
 leaves = by_index leaves_start 2 leaves_alike
 
-trees_alike : Alike image_tree 2
-trees_alike b image s t e = let first = first_alike b image s t e in let same : image_tree b image s ≡ image_tree b image t = cc in same
-
 pub trees : SameByIndex image_tree 2
-trees = by_index image_tree 2 trees_alike
-
-roots_alike : Alike root_at 2
-roots_alike b image s t e = let walk = leaves_alike b image s t e in let same : root_at b image s ≡ root_at b image t = cc in same
+trees = grind (arith, by_index, first_alike)
 
 pub roots : SameByIndex root_at 2
-roots = by_index root_at 2 roots_alike
+roots = grind (arith, by_index, leaves_alike)
 
 -- ---- what is read at other RVAs
 
 pub metadata : (h : ClrHeader) → SameByAny (λ b image may_map. clr_metadata_at b image (may_map h.metadata.virtual_address) h)
-metadata h v is =
-    let e = is.maps h.metadata.virtual_address in
-    let same : clr_metadata_at v.bytes.now v.image.now (may_map v h.metadata.virtual_address) h ≡ clr_metadata_at v.bytes.now v.image.now v.sections.now h = cc in
-    same
+metadata h = grind arith
 
 addresses : (va : ℕ) → SameByAny (λ b image may_map. va_offset b image may_map va)
 unfolding offset_of_va
-addresses va v is =
-    let e = is.maps (va - v.image.now.base) in
-    let same : va_offset v.bytes.now v.image.now (may_map v) va ≡ va_offset v.bytes.now v.image.now (λ _. v.sections.now) va = cc in
-    same
+addresses va = grind arith
 
 pub callbacks : (t : TlsDirectory) → SameByAny (λ b image may_map. callbacks_at b image may_map t)
-callbacks t v is =
-    let e = addresses t.address_of_callbacks v is in
-    let same : callbacks_at v.bytes.now v.image.now (may_map v) t ≡ callbacks_at v.bytes.now v.image.now (λ _. v.sections.now) t = cc in
-    same
-
-places : (p : Place) → SameByAny (λ b image may_map. entries_of b image may_map p)
-places p v is =
-    let e = addresses (unwrap_or p.va 0) v is in
-    let same : entries_of v.bytes.now v.image.now (may_map v) p ≡ entries_of v.bytes.now v.image.now (λ _. v.sections.now) p = cc in
-    same
-
-and_then : {X Y R : Type 0} (x y : Result X R) (f g : X → Result Y R) → x ≡ y → ((a : X) → f a ≡ g a) → (x >>= f) ≡ (y >>= g)
-and_then {X = X} {Y = Y} {R = R} x y f g e same = ap (λ (z : Result X R). z >>= f) e ∙ ap (λ (h : X → Result Y R). y >>= h) (fun_ext same)
+callbacks t = grind (arith, addresses)
 
 pub guard_tables : (n : ℕ) → SameByAny (guard_table_at n)
-guard_tables n v is =
-    let d = directory v.image.now 10 in
-    let config = config_alike v.bytes.now v.image.now (may_map v d.virtual_address) v.sections.now (is.maps d.virtual_address) in
-    let e = and_then _ _ _ _ config (λ (c : LoadConfig). places (place_of n c) v is) in
-    let same : guard_table_at n v.bytes.now v.image.now (may_map v) ≡ guard_table_at n v.bytes.now v.image.now (λ _. v.sections.now) = cc in
-    same
+guard_tables n = grind (arith, config_alike, fun_ext, addresses)
 
 contents_alike : (absent : Bool) (b : List ℕ) (image : Image) (may_map : ℕ → List SectionTable) (t : List SectionTable) (id : ℕ) (r : Result (Option ByteRange) Refusal) →
     map_by image may_map ≡ map_of_image image t →

@@ -1,14 +1,13 @@
 -- What the calls return decides the imports of an image.
-use Rattle.std.proofs.Common.{◌≡◌, ℕ, Bool, true, false, List, [], ◌∷◌, ◌++◌, map, Option, Some, None, Result, Ok, Err, refl, sym, ap, subst, ◌∙◌}
+use Rattle.std.proofs.Common.{◌≡◌, ℕ, Bool, true, false, List, [], ◌∷◌, ◌++◌, map, Option, Some, None, Result, Ok, Err, refl, sym, ap, subst, ◌∙◌, arith}
 use Rattle.std.specs.Prelude.{◌==◌}
 use Rattle.std.specs.List.{AllZip}
 use Rattle.pe_core.specs.Imports.{ImportRecordView, ImportView, entry_size}
-use Rattle.pe_core.specs.Refusals.{Refusal, ◌>>=◌}
-use Rattle.pe_core.specs.declared.import.ImportDirectoryEntry.{ImportDirectoryEntry}
+use Rattle.pe_core.specs.Refusals.{Refusal}
 use Rattle.pe_core.specs.declared.section_table.SectionTable.{SectionTable}
 use Rattle.calls_failures.proofs.OneParts.{one_part, one_range}
 use Rattle.calls_failures.proofs.OneRun.{Moves, ReportsOne, no_refusal, one_list, one_run, one_zip, same_values}
-use Rattle.calls_failures.specs.ImageParts.{AreImports, AreImportsAfter, AreImportsBy, AreImportsOf, IsLibrary, in_turn}
+use Rattle.calls_failures.specs.ImageParts.{AreImports, AreImportsAfter, AreImportsBy, AreImportsOf, IsLibrary}
 use Rattle.calls_base.specs.Images.{map_of_image}
 use Rattle.calls_directories.specs.Imports.{StepsImports, StepsLibraries, import_step, libraries_at, library_step}
 use Rattle.calls_directories.specs.Parts.{ReportsImport}
@@ -23,15 +22,7 @@ abbrev IsOf : List ℕ → Library → Import → ImportView → Type 0
 IsOf b x y i = ReportsImport b y i × IsRange b x.name i.dll
 
 one_import : (b : List ℕ) (x : Library) → ReportsOne (IsOf b x)
-one_import b x y i j g h =
-    let name : i.name ≡ j.name = one_part b y.name i.name j.name g.0.name h.0.name (sym g.0.has_name ∙ h.0.has_name) in
-    let dll : i.dll ≡ j.dll = one_range b x.name i.dll j.dll g.1 h.1 in
-    let ordinal : i.ordinal ≡ j.ordinal = sym g.0.ordinal ∙ h.0.ordinal in
-    let rva : i.rva ≡ j.rva = sym g.0.rva ∙ h.0.rva in
-    ap (λ (v : Option (List ℕ)). record i { name = v }) name
-    ∙ ap (λ (v : List ℕ). record i { name = j.name; dll = v }) dll
-    ∙ ap (λ (v : ℕ). record i { name = j.name; dll = j.dll; ordinal = v }) ordinal
-    ∙ ap (λ (v : ℕ). record j { rva = v }) rva
+one_import b x = grind (arith, one_part, one_range)
 
 imports_move : (offset : ℕ → Option ℕ) (w : ℕ) (b : List ℕ) → Moves (StepsImports offset w b)
 imports_move offset w b walk = ((import_step offset w b walk).0, (import_step offset w b walk).1, refl)
@@ -40,13 +31,7 @@ one_list_of : (offset : ℕ → Option ℕ) (w : ℕ) (b : List ℕ) → Reports
 one_list_of offset w b x l k g h = one_list (StepsImports offset w b) (IsOf b x) (imports_move offset w b) (one_import b x) x.imports l k g h
 
 one_library : (b : List ℕ) → ReportsOne (IsLibrary b)
-one_library b x r s g h =
-    let entry : r.import_directory_entry ≡ s.import_directory_entry = sym g.numbers ∙ h.numbers in
-    let name : r.name ≡ s.name = one_range b x.name r.name s.name g.name h.name in
-    let list : r.lookups ≡ s.lookups = one_range b x.imports.left r.lookups s.lookups g.list h.list in
-    ap (λ (v : ImportDirectoryEntry). record r { import_directory_entry = v }) entry
-    ∙ ap (λ (v : List ℕ). record r { import_directory_entry = s.import_directory_entry; name = v }) name
-    ∙ ap (λ (v : List ℕ). record s { lookups = v }) list
+one_library b = grind (arith, one_range)
 
 pub libraries_move : (offset : ℕ → Option ℕ) (w : ℕ) (b : List ℕ) → Moves (StepsLibraries offset w b)
 libraries_move offset w b walk = ((library_step offset w b walk).0, (library_step offset w b walk).1, refl)
@@ -66,10 +51,7 @@ one_after offset w b walk (Ok rs) (Ok ss) x y g h =
     let same : g.0 ≡ h.0 = same_values g.0 h.0 (one_run (StepsLibraries offset w b) (libraries_move offset w b) walk (map (λ v. Ok v) g.0) (map (λ v. Ok v) h.0) g.2 h.2) in
     let records : rs ≡ ss = one_zip (IsLibrary b) (one_library b) g.0 rs ss g.3 (subst (λ (v : List Library). AllZip (IsLibrary b) v ss) (sym same) h.3) in
     let lists : g.1 ≡ h.1 = one_zip (AreImportsOf offset w b) (one_list_of offset w b) g.0 g.1 h.1 g.4 (subst (λ (v : List Library). AllZip (AreImportsOf offset w b) v h.1) (sym same) h.4) in
-    g.5
-    ∙ ap (λ (v : List ImportRecordView). in_turn g.1 >>= found_with v) records
-    ∙ ap (λ (v : List (Result (List ImportView) Refusal)). in_turn v >>= found_with ss) lists
-    ∙ sym h.5
+    grind (arith, g.5, records, lists, h.5)
 one_after offset w b walk (Ok rs) (Err f) x y g h =
     absurd (no_refusal g.0 h.0.0 f (one_run (StepsLibraries offset w b) (libraries_move offset w b) walk (map (λ v. Ok v) g.0) (map (λ v. Ok v) h.0.0 ++ Err f ∷ []) g.2 h.0.2))
 one_after offset w b walk (Err e) (Ok ss) x y g h =

@@ -1,5 +1,5 @@
 -- What the calls return decides the resources of an image.
-use Rattle.std.proofs.Common.{◌≡◌, ℕ, Bool, true, false, List, Option, Some, None, Result, Ok, Err, sym, ap, subst, ◌∙◌}
+use Rattle.std.proofs.Common.{◌≡◌, ℕ, Bool, true, false, List, Option, Some, None, Result, Ok, Err, sym, ap, subst, ◌∙◌, arith}
 use Rattle.pe_core.proofs.Steps.{one_ok}
 use Rattle.pe_core.specs.Refusals.{Refusal}
 use Rattle.pe_core.specs.declared.byte_range.ByteRange.{ByteRange}
@@ -14,7 +14,7 @@ use Rattle.pe_resource.specs.declared.version.VsFixedFileInfo.{VsFixedFileInfo}
 use Rattle.calls_failures.proofs.OneParts.{one_range}
 use Rattle.calls_failures.proofs.OneRun.{one_option}
 use Rattle.calls_directories.specs.DirectoryTables.{root_at}
-use Rattle.calls_failures.specs.ImageParts.{AreResources, AreResourcesBy, AreResourcesUnless, AreStrings, HasOption, IsVersionAt, IsVersionBy, is_left_out, resources_at}
+use Rattle.calls_failures.specs.ImageParts.{AreResources, AreResourcesBy, AreResourcesUnless, AreStrings, HasOption, IsVersionAt, IsVersionBy, is_left_out}
 use Rattle.calls_base.specs.Images.{directory, is_absent, resource_directory}
 use Rattle.calls_base.specs.Modes.{options_of}
 use Rattle.calls_base.specs.Ranges.{IsRange, range_of}
@@ -74,11 +74,7 @@ one_by : OneContent → (b : List ℕ) (image : Image) (sections : List SectionT
     AreResourcesBy b image sections start x → AreResourcesBy b image sections start y → x ≡ y
 one_by law b image sections (Err e) x y g h = g ∙ sym h
 one_by law b image sections (Ok None) x y g h = g ∙ sym h
-one_by law b image sections (Ok (Some root)) x y g h =
-    let content : g.0 ≡ h.0 = one_content law b image sections 16 g.0 h.0 g.3 h.3 in
-    let version : g.1 ≡ h.1 = one_version b g.0 g.1 h.1 g.4 (subst (λ (c : Result (Option ByteRange) Refusal). IsVersionAt b c h.1) (sym content) h.4) in
-    let manifest : g.2 ≡ h.2 = one_content law b image sections 24 g.2 h.2 g.5 h.5 in
-    g.6 ∙ ap (λ (v : Result (Option VersionView) Refusal). resources_at b root v g.2) version ∙ ap (λ (m : Result (Option ByteRange) Refusal). resources_at b root h.1 m) manifest ∙ sym h.6
+one_by law b image sections (Ok (Some root)) x y g h = grind (arith, one_content, one_version)
 
 one_unless : OneContent → (b : List ℕ) (image : Image) (sections : List SectionTable) (absent : Bool) (x y : Result (Option ResourceView) Refusal) → AreResourcesUnless absent b image sections x → AreResourcesUnless absent b image sections y → x ≡ y
 one_unless law b image sections true x y g h = g ∙ sym h

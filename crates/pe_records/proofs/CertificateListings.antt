@@ -1,9 +1,9 @@
 -- Certificates one after the other.
-use Rattle.std.proofs.Common.{Bool, cond, ◌≡◌, ℕ, zero, suc, ◌+◌, ◌<◌, ◌≤◌, true, false, nat_lt, nat_le, inl, inr, length, map, slice_get, Some, List, [], ◌∷◌, ◌++◌, Result, Ok, Err, Vec, refl, ap, sym, ◌∙◌, subst, arith}
+use Rattle.std.proofs.Common.{Bool, cond, ◌≡◌, ℕ, zero, suc, ◌+◌, ◌<◌, ◌≤◌, true, false, nat_lt, inl, inr, length, map, slice_get, Some, List, [], ◌∷◌, ◌++◌, Result, Ok, Err, Vec, refl, ap, sym, ◌∙◌, subst, arith}
 use Rattle.std.proofs.lemmas.Bool.Decides.{nat_tests}
 use Rattle.std.proofs.lemmas.List.{length-append, map_push}
 use Rattle.pe_core.proofs.Steps.{one_ok, one_err, not_both}
-use Rattle.pe_core.specs.Refusals.{Refusal, Memory, CertificateTable, kind_of, IfMemory, ReturnsUnlessMemory, ◌>>=◌}
+use Rattle.pe_core.specs.Refusals.{Refusal, kind_of, IfMemory, ReturnsUnlessMemory, ◌>>=◌}
 use Rattle.pe_core.specs.declared.error.Error.{Error}
 use Rattle.pe_core.specs.declared.error.Error.TheVariants as errors
 use Rattle.pe_core.proofs.Comparisons.{lt_is, lt_is_not, le_is, le_is_not}
@@ -42,12 +42,10 @@ pub record Placed (b : List ℕ) (end p : ℕ) (cs : List CertificateView) (q : 
   pub last : offset (length cs) ≡ q
 
 shifted_before : (end p : ℕ) (f : ℕ → ℕ) (n : ℕ) → p < end → ((i : ℕ) → i < n → f i < end) → (i : ℕ) → i < suc n → shifted p f i < end
-shifted_before end p f n h k zero lt = h
-shifted_before end p f n h k (suc i) lt = k i (omega arith)
+shifted_before end p f n h k i lt = grind arith
 
 shifted_after : (b : List ℕ) (p : ℕ) (f : ℕ → ℕ) (c : CertificateView) (cs : List CertificateView) → certificate_at b p ≡ Ok (c, f 0) → ((i : ℕ) (d : CertificateView) → slice_get cs i ≡ Some d → certificate_at b (f i) ≡ Ok (d, f (suc i))) → (i : ℕ) (d : CertificateView) → slice_get (c ∷ cs) i ≡ Some d → certificate_at b (shifted p f i) ≡ Ok (d, shifted p f (suc i))
-shifted_after b p f c cs e k zero d same = let is : c ≡ d = cc in rw (← is) e
-shifted_after b p f c cs e k (suc i) d same = k i d same
+shifted_after b p f c cs e k i d same = grind arith
 
 pub placed : (b : List ℕ) (end p : ℕ) (cs : List CertificateView) (q : ℕ) → StandFrom b end p cs q → Placed b end p cs q
 placed b end p [] q s = record {
@@ -79,14 +77,10 @@ unplaced b end offset (c ∷ cs) s = (
 )
 
 pub listing : (b : List ℕ) (address size end : ℕ) (cs : List CertificateView) (q : ℕ) → address + size ≤ length b → end ≡ address + size → StandFrom b end address cs q → end ≤ q → IsListing b address size cs
-listing b address size end cs q h same s k =
-    let is : Placed b (address + size) address cs q = placed b (address + size) address cs q (rw same at s) in
-    record { within = h; offset = is.offset; first = is.first; stand = is.stand; last = omega (arith, is.last) }
+listing b address size end cs q h same s k = grind (arith, placed)
 
 pub refused : (b : List ℕ) (address size end : ℕ) (cs : List CertificateView) (q : ℕ) (r : Refusal) → address + size ≤ length b → end ≡ address + size → StandFrom b end address cs q → q < end → certificate_at b q ≡ Err r → CannotGoOn b address size r
-refused b address size end cs q r h same s k e =
-    let is : Placed b (address + size) address cs q = placed b (address + size) address cs q (rw same at s) in
-    record { within = h; certificates = cs; offset = is.offset; first = is.first; stand = is.stand; last = omega (arith, is.last); refused = rw is.last e }
+refused b address size end cs q r h same s k e = grind (arith, placed)
 
 -- where there is room for one more and it is read, a beginning stands
 pub begun : (b : List ℕ) (address size end : ℕ) (cs : List CertificateView) (c : CertificateView) (q r : ℕ) → address + size ≤ length b → end ≡ address + size → StandFrom b end address cs q → q < end → certificate_at b q ≡ Ok (c, r) → ListingStarts b address size
@@ -95,13 +89,9 @@ begun b address size end cs c q r h same s k e =
     let is : Placed b (address + size) address (cs ++ c ∷ []) r = placed b (address + size) address (cs ++ c ∷ []) r (rw same at more) in
     record { within = h; certificates = cs ++ c ∷ []; some = omega (arith, length-append cs (c ∷ [])); offset = is.offset; first = is.first; stand = is.stand }
 
--- a certificate is not refused for memory
-not_for_memory : (b : List ℕ) (p : ℕ) → certificate_at b p ≡ Err Memory → ⊥
-unfolding certificate_at certificate certificate_tests
-not_for_memory b p e = grind (arith, nat_tests)
-
 pub never_memory : (b : List ℕ) (p : ℕ) (e : Error) (P : Type 0) → certificate_at b p ≡ Err (kind_of e) → IfMemory e P
-never_memory b p (errors.Memory x) P h = absurd (not_for_memory b p h)
+unfolding certificate_at certificate certificate_tests
+never_memory b p (errors.Memory x) P h = absurd (grind (arith, nat_tests))
 never_memory b p other P h = tt
 
 -- ---- the listing as a function
@@ -137,21 +127,14 @@ cannot_go_on b address size r l =
     let s : StandFrom b (address + size) address cs (l.offset (length cs)) = rw l.first at (unplaced b (address + size) l.offset cs l.stand) in
     rw (le_is (address + size) (length b) l.within) (from_refuses b (address + size) size address cs (l.offset (length cs)) r s l.last l.refused (omega arith))
 
-past : (b : List ℕ) (address size : ℕ) → length b < address + size → certificates_at b address size ≡ Err CertificateTable
-unfolding certificates_at
-past b address size h = rw (le_is_not (address + size) (length b) h) refl
-
 pub refusal_is : (b : List ℕ) (address size : ℕ) (r : Refusal) → IsRefused b address size r → certificates_at b address size ≡ Err r
-refusal_is b address size r (inl h) = past b address size h.0 ∙ ap (λ (x : Refusal). Err x) (sym h.1)
+unfolding certificates_at
+refusal_is b address size r (inl h) = rw (le_is_not (address + size) (length b) h.0) refl ∙ ap (λ (x : Refusal). Err x) (sym h.1)
 refusal_is b address size r (inr h) = cannot_go_on b address size r h
 
 -- what lists a table returns its listing
 pub listed_is : {Z : Type 0} (b : List ℕ) (address size : ℕ) (r : Result (Vec AttributeCertificate Z) Error) → Lists b address size r → ReturnsUnlessMemory (λ (v : Vec AttributeCertificate Z). map certificate_view v.items) r (certificates_at b address size)
-listed_is b address size (Ok v) l = listing_is b address size (map certificate_view v.items) l
-listed_is b address size (Err (errors.Malformed x)) l = refusal_is b address size (kind_of (errors.Malformed x)) l.0
-listed_is b address size (Err (errors.BadMagic x)) l = refusal_is b address size (kind_of (errors.BadMagic x)) l.0
-listed_is b address size (Err (errors.Short x y)) l = refusal_is b address size (kind_of (errors.Short x y)) l.0
-listed_is b address size (Err (errors.Memory x)) l = tt
+listed_is b address size r l = grind (arith, listing_is, refusal_is)
 
 -- what the function returns is a listing or a refusal
 abbrev Settles : List ℕ → ℕ → ℕ → Result (List CertificateView) Refusal → Type 0
@@ -179,16 +162,11 @@ Answers b address size (Ok cs) = IsListing b address size cs
 Answers b address size (Err r) = IsRefused b address size r
 
 answers_within : (b : List ℕ) (address size : ℕ) (r : Result (List CertificateView) Refusal) → address + size ≤ length b → Settles b (address + size) address r → Answers b address size r
-answers_within b address size (Ok cs) h s = listing b address size (address + size) cs s.0 h refl s.1 s.2
-answers_within b address size (Err r) h s = inr (refused b address size (address + size) s.0 s.1 r h refl s.2 s.3 s.4)
-
-answers_at : (b : List ℕ) (address size : ℕ) (t : Bool) → nat_le (address + size) (length b) ≡ t → Answers b address size (cond t (certificates_from b (address + size) size address) (Err CertificateTable))
-answers_at b address size true t = answers_within b address size (certificates_from b (address + size) size address) (grind (arith, nat_tests)) (settles b (address + size) size address (omega arith))
-answers_at b address size false t = inl (grind (arith, nat_tests), refl)
+answers_within b address size r h s = grind (arith, listing, refused)
 
 answers : (b : List ℕ) (address size : ℕ) → Answers b address size (certificates_at b address size)
 unfolding certificates_at
-answers b address size = answers_at b address size (nat_le (address + size) (length b)) refl
+answers b address size = grind (arith, answers_within, nat_tests, settles)
 
 pub is_listing : (b : List ℕ) (address size : ℕ) (cs : List CertificateView) → certificates_at b address size ≡ Ok cs → IsListing b address size cs
 is_listing b address size cs e = subst (Answers b address size) e (answers b address size)

@@ -1,10 +1,10 @@
 -- Bytes that are written over others.
-use Rattle.std.proofs.Common.{◌≡◌, ℕ, ◌+◌, ◌-◌, ◌≤◌, Bool, true, false, cond, Err, List, [], ◌∷◌, ◌++◌, length, take, drop, refl, ap, sym, ◌∙◌, subst, append_assoc, length-append, length-take, length-drop, arith}
+use Rattle.std.proofs.Common.{◌≡◌, ℕ, ◌+◌, ◌-◌, ◌≤◌, Err, List, [], ◌∷◌, ◌++◌, length, take, drop, refl, ap, sym, ◌∙◌, append_assoc, length-append, length-take, length-drop, arith}
 use Rattle.std.proofs.lemmas.List.{take_at, drop_all, append-nil, length-replicate}
 use borrow.Rule.Slice.PartMut.{put_mid}
 use Rattle.pe_core.proofs.Splices.{length-bytes_of, splice-splice}
-use Rattle.pe_core.specs.Bytes.{holds, splice, put, fit_at}
-use Rattle.pe_core.specs.Refusals.{Refusal, WriteFit, outcome}
+use Rattle.pe_core.specs.Bytes.{splice, put, fit_at}
+use Rattle.pe_core.specs.Refusals.{Refusal}
 use Rattle.pe_records.specs.Certificates.{CertificateView}
 use Rattle.pe_records.specs.CertificateWriting.{spell_certificate, written_certificate, written_certificates, written_length, padding}
 
@@ -33,14 +33,9 @@ end_length p h g b c x i j l room e =
     let s : length x ≡ length p = ap length e ∙ simp (length-append, length-take, length-drop) (omega arith) in
     simp (length-take, length-drop) (omega arith)
 
-kept_if : {Y : Type 0} (t : Bool) (b s : List ℕ) (value : Y) (r : Refusal) → outcome ((t, WriteFit) ∷ []) value ≡ Err r → b ≡ cond t s b
-kept_if true b s value r e = absurd cc
-kept_if false b s value r e = refl
-
 -- a certificate that does not fit is not put
 pub kept : (b : List ℕ) (p n : ℕ) (c : CertificateView) (r : Refusal) → n ≡ written_length c → fit_at b p n ≡ Err r → b ≡ put b p (written_certificate c)
-kept b p n c r same e =
-    rw (length_written c) (kept_if (holds b p (written_length c)) b (splice b p (written_certificate c)) tt r (subst (λ (m : ℕ). fit_at b p m ≡ Err r) same e))
+kept b p n c r same e = grind (arith, length_written)
 
 pub three_pieces : (b : List ℕ) (p : ℕ) (c : CertificateView) → p ≤ length b → splice b p (written_certificate c) ≡ splice (splice (splice b p (spell_certificate c)) (p + 8) c.body) (p + 8 + length c.body) (padding c)
 three_pieces b p c h =

@@ -1,5 +1,5 @@
 -- What is written is read again.
-use Rattle.std.proofs.Common.{[], ◌∷◌, ◌≡◌, true, nat_le, ℕ, ◌+◌, ◌-◌, ◌/◌, ◌%◌, ◌^◌, ◌<◌, ◌≤◌, List, ◌++◌, length, take, drop, get_or, Ok, refl, ap, sym, ◌∙◌, subst, append_assoc, add-zero, length-append, length-take, length-drop, length-take-le, arith}
+use Rattle.std.proofs.Common.{[], ◌∷◌, ◌≡◌, true, ℕ, ◌+◌, ◌-◌, ◌/◌, ◌%◌, ◌^◌, ◌<◌, ◌≤◌, List, ◌++◌, length, take, drop, get_or, Ok, refl, ap, sym, ◌∙◌, subst, append_assoc, add-zero, length-append, length-take, length-drop, length-take-le, arith}
 use Rattle.std.proofs.lemmas.Bool.Decides.{nat_tests}
 use Rattle.std.proofs.lemmas.List.{take_at, drop_at, get_or-append-add}
 use Rattle.pe_core.proofs.NumberBytes.{le_small}
@@ -7,9 +7,7 @@ use Rattle.pe_core.proofs.Ranges.{length_range}
 use Rattle.pe_core.specs.Bytes.{AreBytes, le, bytes_of, range, splice}
 use Rattle.pe_core.specs.SectionMap.{rounded_up}
 use Rattle.pe_records.specs.declared.certificate_table.AttributeCertificateRevision.{AttributeCertificateRevision}
-use Rattle.pe_records.specs.declared.certificate_table.AttributeCertificateRevision.TheVariants.{Revision1_0, Revision2_0}
 use Rattle.pe_records.specs.declared.certificate_table.AttributeCertificateType.{AttributeCertificateType}
-use Rattle.pe_records.specs.declared.certificate_table.AttributeCertificateType.TheVariants.{X509, PkcsSignedData, Reserved1, TsStackSigned}
 use Rattle.pe_records.specs.Certificates.{CertificateView, certificate_at, certificate, certificate_tests, IsListing, revision_number, type_number, revision_of, type_of, is_revision, is_type}
 use Rattle.pe_records.proofs.CertificateListings.{StandFrom, unplaced, listing}
 use Rattle.pe_records.proofs.CertificatePieces.{length_written}
@@ -22,19 +20,11 @@ after f xs p i k e j = subst (λ (n : ℕ). get_or (f ++ xs) n 0 ≡ get_or xs i
 -- the numbers that stand after a front
 le_four : (f xs : List ℕ) (p i n : ℕ) → length f ≡ p → get_or xs i 0 ≡ n % 256 → get_or xs (i + 1) 0 ≡ n / 256 % 256 → get_or xs (i + 2) 0 ≡ n / 256 / 256 % 256 → get_or xs (i + 3) 0 ≡ n / 256 / 256 / 256 % 256 → n < 2 ^ 32 → le (f ++ xs) (p + i) 4 ≡ n
 unfolding le
-le_four f xs p i n e a0 a1 a2 a3 small =
-    let b0 = after f xs p i (p + i + 0) e (omega arith) in
-    let b1 = after f xs p (i + 1) (p + i + 1) e (omega arith) in
-    let b2 = after f xs p (i + 2) (p + i + 2) e (omega arith) in
-    let b3 = after f xs p (i + 3) (p + i + 3) e (omega arith) in
-    omega arith
+le_four f xs p i n e a0 a1 a2 a3 small = grind (arith, after)
 
 le_two : (f xs : List ℕ) (p i n : ℕ) → length f ≡ p → get_or xs i 0 ≡ n % 256 → get_or xs (i + 1) 0 ≡ n / 256 % 256 → n < 2 ^ 16 → le (f ++ xs) (p + i) 2 ≡ n
 unfolding le
-le_two f xs p i n e a0 a1 small =
-    let b0 = after f xs p i (p + i + 0) e (omega arith) in
-    let b1 = after f xs p (i + 1) (p + i + 1) e (omega arith) in
-    omega arith
+le_two f xs p i n e a0 a1 small = grind (arith, after)
 
 pub record RevisionKept (r : AttributeCertificateRevision) : Type 0 where
   pub is : is_revision (revision_number r) ≡ true
@@ -42,8 +32,7 @@ pub record RevisionKept (r : AttributeCertificateRevision) : Type 0 where
   pub small : revision_number r < 2 ^ 16
 
 revision_kept : (r : AttributeCertificateRevision) → RevisionKept r
-revision_kept Revision1_0 = record { is = refl; same = refl; small = omega arith }
-revision_kept Revision2_0 = record { is = refl; same = refl; small = omega arith }
+revision_kept r = grind arith
 
 pub record TypeKept (t : AttributeCertificateType) : Type 0 where
   pub is : is_type (type_number t) ≡ true
@@ -51,20 +40,12 @@ pub record TypeKept (t : AttributeCertificateType) : Type 0 where
   pub small : type_number t < 2 ^ 16
 
 type_kept : (t : AttributeCertificateType) → TypeKept t
-type_kept X509 = record { is = refl; same = refl; small = omega arith }
-type_kept PkcsSignedData = record { is = refl; same = refl; small = omega arith }
-type_kept Reserved1 = record { is = refl; same = refl; small = omega arith }
-type_kept TsStackSigned = record { is = refl; same = refl; small = omega arith }
+type_kept t = grind arith
 
 -- a certificate that is spelled by the bytes at p is the one at p
 certificate_from : (b : List ℕ) (p : ℕ) (c : CertificateView) (q : ℕ) → le b p 4 ≡ c.length → le b (p + 4) 2 ≡ revision_number c.revision → le b (p + 6) 2 ≡ type_number c.certificate_type → p + 8 ≤ length b → p + 8 + (c.length - 8) ≤ length b → range b (p + 8) (c.length - 8) ≡ c.body → rounded_up (p + 8 + (c.length - 8)) 8 ≡ q → certificate_at b p ≡ Ok (c, q)
 unfolding certificate_at certificate certificate_tests
-certificate_from b p c q l r t h k body next =
-    let rk = revision_kept c.revision in
-    let tk = type_kept c.certificate_type in
-    let t1 : nat_le (p + 8) (length b) ≡ true = grind (arith, nat_tests) in
-    let t2 : nat_le (p + 8 + (c.length - 8)) (length b) ≡ true = grind (arith, nat_tests) in
-    rw l (rw r (rw t (rw t1 (rw t2 (rw (rk.is, tk.is, rk.same, tk.same) (rw body (rw next refl)))))))
+certificate_from b p c q l r t h k body next = grind (arith, revision_kept, type_kept, nat_tests)
 
 -- the body that stands after eight bytes
 body_is : (f h m z : List ℕ) (p n : ℕ) → length f ≡ p → length h ≡ 8 → length m ≡ n → range (f ++ (h ++ (m ++ z))) (p + 8) n ≡ m
@@ -109,15 +90,10 @@ unfolding certificate_at certificate certificate_tests
 read b p c q e = record { size = grind (arith, nat_tests); inside = grind (arith, nat_tests); body = grind (arith, nat_tests); next = grind (arith, nat_tests) }
 
 pub whole : (b : List ℕ) (p : ℕ) (c : CertificateView) (q : ℕ) → AreBytes b → certificate_at b p ≡ Ok (c, q) → IsWhole c
-whole b p c q small e =
-    let r : Read b p c q = read b p c q e in
-    record { fits = omega (arith, le_small b p small, r.size); body = ap length r.body ∙ length_range b (p + 8) (c.length - 8) r.inside }
+whole b p c q small e = grind (arith, read, le_small, length_range)
 
 pub next_offset : (b : List ℕ) (p : ℕ) (c : CertificateView) (q : ℕ) → AreBytes b → p % 8 ≡ 0 → certificate_at b p ≡ Ok (c, q) → q ≡ p + written_length c
-next_offset b p c q small m e =
-    let r : Read b p c q = read b p c q e in
-    let w : IsWhole c = whole b p c q small e in
-    omega (arith, r.next, w.body)
+next_offset b p c q small m e = grind (arith, read, whole)
 
 -- ---- certificates that are written one after the other
 

@@ -1,6 +1,6 @@
 -- Equality of debug data, field by field.
-use Rattle.std.proofs.Common.{◌≡◌, ℕ, Bool, List, nat_eq, ◌&&◌, refl, ap}
-use Rattle.std.specs.Prelude.{Option, None, Some}
+use Rattle.std.proofs.Common.{◌≡◌, ℕ, Bool, List, nat_eq, ◌&&◌, refl, ap, arith}
+use Rattle.std.specs.Prelude.{Option}
 use Rattle.std.specs.Option.{option_eq}
 use Rattle.std.specs.Bool.{Decides}
 use Rattle.std.proofs.lemmas.Bool.Decides.{Decides-and, Decides-like, Decides-eqb}
@@ -18,10 +18,7 @@ use Rattle.pe_records.specs.declared.debug.records.ReproInfo.{ReproInfo}
 use Rattle.pe_records.specs.declared.debug.records.VCFeatureInfo.{VCFeatureInfo}
 
 options_equal : {X : Type 0} (eq : X → X → Bool) → IsEquality eq → (a b : Option X) → Decides (option_eq eq a b) (a ≡ b)
-options_equal eq e None None = (λ h. refl, λ h. refl)
-options_equal eq e None (Some y) = (λ h. absurd cc, λ h. absurd cc)
-options_equal eq e (Some x) None = (λ h. absurd cc, λ h. absurd cc)
-options_equal eq e (Some x) (Some y) = (λ h. ap Some ((e x y).0 h), λ h. (e x y).1 cc)
+options_equal eq e a b = grind arith
 
 abbrev data_of : List ℕ → ℕ → Option Pdb70 → Option Pdb20 → Option VCFeatureInfo → Option ExDllCharacteristicsInfo → Option Repro → Option Pogo → DebugFields
 data_of a0 a1 a2 a3 a4 a5 a6 a7 = record { table = a0; fixup = a1; pdb70 = a2; pdb20 = a3; features = a4; characteristics = a5; repro = a6; pogo = a7 }

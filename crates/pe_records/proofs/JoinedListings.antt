@@ -1,5 +1,5 @@
 -- Certificates that stand later in other bytes, and certificates that follow them.
-use Rattle.std.proofs.Common.{◌≡◌, ℕ, ◌+◌, ◌-◌, ◌%◌, ◌<◌, ◌≤◌, Bool, true, false, List, [], ◌∷◌, ◌++◌, length, get_or, Result, Ok, Err, refl, ap, sym, ◌∙◌, subst, arith}
+use Rattle.std.proofs.Common.{◌≡◌, ℕ, ◌+◌, ◌-◌, ◌%◌, ◌<◌, ◌≤◌, Bool, true, List, [], ◌∷◌, ◌++◌, length, get_or, Result, Ok, Err, refl, ap, sym, ◌∙◌, subst, arith}
 use Rattle.std.proofs.lemmas.List.{places, ext_get_or}
 use Rattle.pe_core.proofs.Ranges.{length_range, held_if_inside, byte_of_range}
 use Rattle.pe_core.specs.Bytes.{holds, le, range}
@@ -25,8 +25,6 @@ range_later : (b f : List ℕ) (s a p q n : ℕ) → StandLater b f s a → q �
 range_later b f s a p q n l at from to =
     ext_get_or 0 (range f q n) (range b p n) (grind (arith, places, l.inside))
     (λ k lt. let small : k < n = grind (arith, places) in
-    let place : q + k ≡ s + (p + k) = omega arith in
-    let byte : get_or f (q + k) 0 ≡ get_or b (p + k) 0 = rw place (l.same (p + k) (omega arith) (omega arith)) in
     grind (arith, places, l.inside))
 
 -- what is read, with the offset after it s bytes later
@@ -37,11 +35,7 @@ later_by s (Err r) = Err r
 -- the same tests of what follows the two lengths
 tests_later : (t u v w : Bool) (x c : CertificateView) (m next s : ℕ) → outcome {Y = CertificateView × ℕ} ((t, Short) ∷ (u, CertificateSize) ∷ (v, CertificateRevision) ∷ (w, CertificateType) ∷ []) (x, m) ≡ Ok (c, next) →
     outcome {Y = CertificateView × ℕ} ((true, Short) ∷ (true, CertificateSize) ∷ (v, CertificateRevision) ∷ (w, CertificateType) ∷ []) (x, s + m) ≡ Ok (c, s + next)
-tests_later true true true true x c m next s e = ap (later_by s) e
-tests_later true true true false x c m next s e = absurd cc
-tests_later true true false w x c m next s e = absurd cc
-tests_later true false v w x c m next s e = absurd cc
-tests_later false u v w x c m next s e = absurd cc
+tests_later t u v w x c m next s e = grind arith
 
 read_later : (b f : List ℕ) (s a p : ℕ) (c : CertificateView) (next : ℕ) → StandLater b f s a → s % 8 ≡ 0 → a ≤ p → certificate_at b p ≡ Ok (c, next) → certificate_at f (s + p) ≡ Ok (c, s + next)
 unfolding certificate_at certificate certificate_tests

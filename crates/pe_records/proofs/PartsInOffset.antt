@@ -1,8 +1,8 @@
 -- The parts of records stand where their definitions take them from.
-use Rattle.std.proofs.Common.{◌≡◌, ℕ, ◌+◌, ◌-◌, ◌<◌, ◌≤◌, Bool, true, false, List, [], ◌∷◌, length, take, drop, Option, Some, None, Result, Ok, Err, refl, ap, sym, subst, inl, inr, arith}
+use Rattle.std.proofs.Common.{◌≡◌, ℕ, ◌+◌, ◌-◌, ◌<◌, ◌≤◌, Bool, true, List, [], ◌∷◌, length, take, drop, Option, Some, None, Result, Ok, refl, ap, sym, subst, arith}
 use Rattle.std.proofs.lemmas.List.{places, same_lists}
 use Rattle.std.proofs.lemmas.List.Quantifiers.{position-Some}
-use Rattle.std.specs.Prelude.{nat_le, nat_lt, position, IfSome, ◌==◌, ◌||◌}
+use Rattle.std.specs.Prelude.{nat_le, nat_lt, ◌==◌, ◌||◌}
 use Rattle.std.specs.Option.{option_map}
 use Rattle.pe_core.proofs.Ranges.{length_range, inside_if_held}
 use Rattle.pe_core.proofs.Steps.{given, same_inside}
@@ -17,7 +17,7 @@ use Rattle.pe_records.specs.Certificates.{CertificateView, certificate_at}
 use Rattle.pe_records.specs.DebugDirectory.{first_of_type, directory_table}
 use Rattle.pe_records.specs.DebugRecords.{DebugFields, Pdb70, Pdb20, Pogo, Repro, Stamp, Buffer, pdb70_at, pdb70_record, pdb20_at, pdb20_record, pogo_record, repro_record, pdb70_of, pdb20_of, features_of, characteristics_of, repro_of, pogo_of, of_entry, some_of_entry, record_offset, records, debug_data}
 use Rattle.pe_core.specs.Offsets.{StandAt}
-use Rattle.pe_records.specs.ManagedDebug.{Checksum, Embedded, checksum_after, checksum_in, checksum_of, checksum_record, embedded_of, embedded_record}
+use Rattle.pe_records.specs.ManagedDebug.{Checksum, Embedded, checksum_in, checksum_of, checksum_record, embedded_of, embedded_record}
 use Rattle.pe_records.specs.Parts.{StandsAfter, DebugPartsStand, hash_of}
 use Rattle.pe_records.proofs.CertificatesReadAgain.{Read, read}
 use Rattle.pe_records.proofs.SpelledDebug.{passed, passed_pogo, passed_repro}
@@ -59,26 +59,17 @@ HashStands b p (Buffer count bytes) = StandAt b (p + 4) bytes
 
 hash : (b : List ℕ) (p : ℕ) (e : ImageDebugDirectory) (r : Repro) → repro_record b p e ≡ Ok r → HashStands b p r
 unfolding repro_record
-hash b p e r given =
-    let n : ℕ = le b p 4 in
-    let tests = passed_repro (e.size_of_data == 0) (holds b p 4) (holds b (p + 4) n) Short DebugData (Stamp e.time_date_stamp) (Buffer n (range b (p + 4) n)) r given in
-    elim tests as (λ t. HashStands b p r) [
-      | inl is ↦ subst (HashStands b p) is tt
-      | inr both ↦ subst (HashStands b p) both.1 (stand b (p + 4) n (range b (p + 4) n) (inside_if_held b (p + 4) n both.0) refl)
-    ]
+hash b p e r given = grind (arith, passed_repro, given, stand, inside_if_held)
 
 -- ---- the records of debug data
 
 after : {X : Type 0} (o : ParseOptions) (b : List ℕ) (n : ℕ) (part : X → List ℕ) (record_of : ImageDebugDirectory → Result (Option X) Refusal) →
     ((e : ImageDebugDirectory) (x : X) → record_of e ≡ Ok (Some x) → StandAt b (record_offset o.resolve_rva e + n) (part x)) →
     (entry : Option ImageDebugDirectory) (x : Option X) → of_entry record_of entry ≡ Ok x → StandsAfter o b n entry (option_map part x)
-after o b n part record_of h entry None e = tt
-after o b n part record_of h None (Some x) e = absurd cc
-after o b n part record_of h (Some entry) (Some x) e = h entry x e
+after o b n part record_of h entry x e = grind arith
 
 hash_given : (o : ParseOptions) (b : List ℕ) (e : ImageDebugDirectory) (given : Result Repro Refusal) (r : Repro) → repro_of o b e ≡ given → (given >>= λ x. Ok (Some x)) ≡ Ok (Some r) → HashStands b (record_offset o.resolve_rva e) r
-hash_given o b e (Ok x) r given h = let same : x ≡ r = cc in subst (HashStands b (record_offset o.resolve_rva e)) same (hash b (record_offset o.resolve_rva e) e x given)
-hash_given o b e (Err x) r given h = absurd cc
+hash_given o b e given r i h = grind (arith, hash, given)
 
 hash_after : (o : ParseOptions) (b : List ℕ) (entry : Option ImageDebugDirectory) (r : Option Repro) → some_of_entry (repro_of o b) entry ≡ Ok r → StandsAfter o b 4 entry (hash_of r)
 hash_after o b entry None e = tt
@@ -102,11 +93,7 @@ hash_of_repro o b e r given = hash_after o b (Some e) (Some r) (ap (λ x. x >>= 
 
 all_passed : {X : Type 0} (first second third last : Bool) (i j k l : Refusal) (v x : X) →
     outcome ((first, i) ∷ (second, j) ∷ (third, k) ∷ (last, l) ∷ []) v ≡ Ok x → (last ≡ true) × (v ≡ x)
-all_passed true true true true i j k l v x e = (refl, cc)
-all_passed true true true false i j k l v x e = absurd cc
-all_passed true true false last i j k l v x e = absurd cc
-all_passed true false third last i j k l v x e = absurd cc
-all_passed false second third last i j k l v x e = absurd cc
+all_passed first second third last i j k l v x e = grind arith
 
 embedded_stands : (b : List ℕ) (p size : ℕ) (r : Embedded) → embedded_record b p size ≡ Ok r → StandAt b (p + 8) r.compressed
 unfolding embedded_record
@@ -128,21 +115,8 @@ ending b p size n h lt = record { inside = grind (arith, places); here = same_li
 abbrev ChecksumStands : List ℕ → ℕ → Checksum → Type 0
 ChecksumStands b p r = StandAt b (p + 0) r.algorithm × StandAt b (p + (length r.algorithm + 1)) r.checksum
 
-checksum_by : (b : List ℕ) (p size : ℕ) (end : Option ℕ) (r : Checksum) → p + size ≤ length b → IfSome end (λ n. n < size) → checksum_after (range b p size) end ≡ Ok r → ChecksumStands b p r
-checksum_by b p size None r h below e = absurd cc
-checksum_by b p size (Some n) r h below e =
-    let is : record { algorithm = take n (range b p size); checksum = drop (n + 1) (range b p size) } ≡ r = cc in
-    subst (ChecksumStands b p) is (beginning b p size n h below, ending b p size n h below)
-
-below_all : (x : List ℕ) (size : ℕ) (end : Option ℕ) → length x ≡ size → position (λ c. c == 0) x ≡ end → IfSome end (λ n. n < size)
-below_all x size None e is = tt
-below_all x size (Some n) e is = subst (λ m. n < m) e (position-Some (λ c. c == 0) x n 0 is).0
-
 checksum_stands : (b : List ℕ) (p size : ℕ) (held : Bool) (r : Checksum) → holds b p size ≡ held → (outcome ((held, DebugData) ∷ []) (range b p size) >>= checksum_in) ≡ Ok r → ChecksumStands b p r
-checksum_stands b p size true r h e =
-    let inside : p + size ≤ length b = inside_if_held b p size h in
-    checksum_by b p size (position (λ c. c == 0) (range b p size)) r inside (below_all (range b p size) size (position (λ c. c == 0) (range b p size)) (length_range b p size inside) refl) e
-checksum_stands b p size false r h e = absurd cc
+checksum_stands b p size held r h e = grind (arith, inside_if_held, length_range, beginning, ending, position-Some)
 
 parts_of_sum : (b : List ℕ) (p size : ℕ) (r : Checksum) → checksum_record b p size ≡ Ok r → ChecksumStands b p r
 unfolding checksum_record

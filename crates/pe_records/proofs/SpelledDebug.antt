@@ -1,14 +1,13 @@
 -- A debug record that is returned spells the bytes of its range.
-use Rattle.std.proofs.Common.{◌≡◌, ℕ, ◌+◌, ◌-◌, ◌≤◌, Bool, true, false, List, [], ◌∷◌, ◌++◌, length, Some, None, Ok, Err, refl, ap, sym, ◌∙◌, subst, ◌⊎◌, inl, inr, arith}
-use Rattle.std.specs.Prelude.{nat_lt, slice_range, ◌==◌, ◌||◌, if◌then◌else◌}
+use Rattle.std.proofs.Common.{◌≡◌, ℕ, ◌+◌, ◌-◌, ◌≤◌, Bool, true, false, List, [], ◌∷◌, ◌++◌, length, Some, None, Ok, Err, refl, ap, ◌∙◌, ◌⊎◌, arith}
+use Rattle.std.specs.Prelude.{slice_range, if◌then◌else◌}
 use Rattle.std.proofs.lemmas.Bool.Decides.{nat_tests}
 use Rattle.pe_core.proofs.Ranges.{inside_if_held}
 use Rattle.pe_core.proofs.NumberBytes.{bytes_of-le, range_join}
-use Rattle.pe_core.specs.Bytes.{AreBytes, le, bytes_of, range, holds}
+use Rattle.pe_core.specs.Bytes.{AreBytes, le, bytes_of, range}
 use Rattle.pe_core.specs.Modes.{none_if_refused}
-use Rattle.pe_core.specs.Refusals.{Refusal, Short, DebugSize, DebugData, PogoSize, outcome}
+use Rattle.pe_core.specs.Refusals.{Refusal, Short, DebugSize, outcome}
 use Rattle.pe_core.specs.declared.options.ParseMode.{ParseMode}
-use Rattle.pe_core.specs.declared.options.ParseMode.TheVariants.{Strict, Permissive}
 use Rattle.pe_core.proofs.Comparisons.{not_below}
 use Rattle.pe_records.specs.declared.debug.ImageDebugDirectory.{ImageDebugDirectory}
 use Rattle.pe_records.specs.DebugRecords.{Pdb70, Pdb20, Pogo, pdb70_at, pdb70_record, pdb20_at, pdb20_record, features_at, pogo_record, Repro, Stamp, Buffer, repro_record}
@@ -20,22 +19,13 @@ join b xs ys p q r e f h i l = ap (λ (x : List ℕ). x ++ ys) e ∙ ap (λ (y :
 
 -- the number at q after the bytes from p to q
 number : (b xs : List ℕ) (p q r w : ℕ) → AreBytes b → xs ≡ slice_range b p q → p ≤ q → r ≡ q + w → r ≤ length b → xs ++ bytes_of w (le b q w) ≡ slice_range b p r
-number b xs p q r w small e h end l =
-    let inside : q + w ≤ length b = omega arith in
-    let up : q ≤ r = omega arith in
-    join b xs (bytes_of w (le b q w)) p q r e (bytes_of-le b q w small inside ∙ ap (slice_range b q) (sym end)) h up l
+number b xs p q r w small e h end l = grind (arith, join, bytes_of-le)
 
 -- what is returned passed its tests
 pub passed : {X : Type 0} (short : Bool) (mode : ParseMode) (there own whole inside : Bool) (i j : Refusal) (v x : X) →
     (if short then none_if_refused mode (Err DebugSize) else (if there then (if own then outcome ((whole, i) ∷ (inside, j) ∷ []) (Some v) else Ok None) else Err Short)) ≡ Ok (Some x) →
     (short ≡ false) × (inside ≡ true) × (v ≡ x)
-passed true Permissive there own whole inside i j v x e = absurd cc
-passed true Strict there own whole inside i j v x e = absurd cc
-passed false mode true true true true i j v x e = (refl, refl, cc)
-passed false mode true true true false i j v x e = absurd cc
-passed false mode true true false inside i j v x e = absurd cc
-passed false mode true false whole inside i j v x e = absurd cc
-passed false mode false own whole inside i j v x e = absurd cc
+passed short mode there own whole inside i j v x e = grind arith
 
 spelled_pdb70_at : (b : List ℕ) (p size : ℕ) → AreBytes b → 24 ≤ size → p + size ≤ length b → spell_pdb70 (pdb70_at b p size) ≡ range b p size
 unfolding spell_pdb70 pdb70_at
@@ -59,61 +49,31 @@ spelled_pdb20_at b p size small least inside =
 
 pub spelled_features : (b : List ℕ) (p : ℕ) → AreBytes b → p + 20 ≤ length b → spell_features (features_at b p) ≡ range b p 20
 unfolding spell_features features_at
-spelled_features b p small inside =
-    let first = bytes_of-le b p 4 small (omega arith) in
-    let second = number b (bytes_of 4 (le b p 4)) p (p + 4) (p + 8) 4 small first (omega arith) (omega arith) (omega arith) in
-    let third = number b (bytes_of 4 (le b p 4) ++ bytes_of 4 (le b (p + 4) 4)) p (p + 8) (p + 12) 4 small second (omega arith) (omega arith) (omega arith) in
-    let fourth = number b (bytes_of 4 (le b p 4) ++ bytes_of 4 (le b (p + 4) 4) ++ bytes_of 4 (le b (p + 8) 4)) p (p + 12) (p + 16) 4 small third (omega arith) (omega arith) (omega arith) in
-    number b (bytes_of 4 (le b p 4) ++ bytes_of 4 (le b (p + 4) 4) ++ bytes_of 4 (le b (p + 8) 4) ++ bytes_of 4 (le b (p + 12) 4)) p (p + 16) (p + 20) 4 small fourth (omega arith) (omega arith) (omega arith)
+spelled_features b p small inside = grind (arith, bytes_of-le, number)
 
 pub spelled_pdb70 : (mode : ParseMode) (b : List ℕ) (p size : ℕ) (r : Pdb70) → AreBytes b → pdb70_record mode b p size ≡ Ok (Some r) → spell_pdb70 r ≡ range b p size
 unfolding pdb70_record
-spelled_pdb70 mode b p size r small e =
-    let tests = passed (nat_lt size 24) mode (holds b p 4) (le b p 4 == 0x53445352) (holds b (p + 4) 20) (holds b (p + 24) (size - 24)) Short DebugData (pdb70_at b p size) r e in
-    let least : 24 ≤ size = not_below size 24 tests.0 in
-    let inside : p + 24 + (size - 24) ≤ length b = inside_if_held b (p + 24) (size - 24) tests.1 in
-    ap spell_pdb70 (sym tests.2) ∙ spelled_pdb70_at b p size small least (omega arith)
+spelled_pdb70 mode b p size r small e = grind (arith, passed, not_below, inside_if_held, spelled_pdb70_at)
 
 pub spelled_pdb20 : (mode : ParseMode) (b : List ℕ) (p size : ℕ) (r : Pdb20) → AreBytes b → pdb20_record mode b p size ≡ Ok (Some r) → spell_pdb20 r ≡ range b p size
 unfolding pdb20_record
-spelled_pdb20 mode b p size r small e =
-    let tests = passed (nat_lt size 16) mode (holds b p 4) (le b p 4 == 0x3031424E) (holds b (p + 4) 12) (holds b (p + 16) (size - 16)) Short DebugData (pdb20_at b p size) r e in
-    let least : 16 ≤ size = not_below size 16 tests.0 in
-    let inside : p + 16 + (size - 16) ≤ length b = inside_if_held b (p + 16) (size - 16) tests.1 in
-    ap spell_pdb20 (sym tests.2) ∙ spelled_pdb20_at b p size small least (omega arith)
+spelled_pdb20 mode b p size r small e = grind (arith, passed, not_below, inside_if_held, spelled_pdb20_at)
 
 -- what is returned passed its tests
 pub passed_pogo : {X : Type 0} (there own larger inside : Bool) (i j : Refusal) (v x : X) →
     (if there then (if own then outcome ((larger, i) ∷ (inside, j) ∷ []) (Some v) else Ok None) else Err Short) ≡ Ok (Some x) →
     (larger ≡ true) × (inside ≡ true) × (v ≡ x)
-passed_pogo true true true true i j v x e = (refl, refl, cc)
-passed_pogo true true true false i j v x e = absurd cc
-passed_pogo true true false inside i j v x e = absurd cc
-passed_pogo true false larger inside i j v x e = absurd cc
-passed_pogo false own larger inside i j v x e = absurd cc
-
-is_below : (n k : ℕ) → nat_lt n k ≡ true → n + 1 ≤ k
-is_below n k e = grind (arith, nat_tests)
+passed_pogo there own larger inside i j v x e = grind arith
 
 pub spelled_pogo : (b : List ℕ) (p size : ℕ) (r : Pogo) → AreBytes b → pogo_record b p size ≡ Ok (Some r) → spell_pogo r ≡ range b p size
 unfolding pogo_record spell_pogo
-spelled_pogo b p size r small e =
-    let v : Pogo = record { signature = le b p 4; bytes = range b (p + 4) (size - 4) } in
-    let tests = passed_pogo (holds b p 4) (le b p 4 == 0x4C544347 || le b p 4 == 0x50475500) (nat_lt 4 size) (holds b (p + 4) (size - 4)) PogoSize DebugData v r e in
-    let least : 4 + 1 ≤ size = is_below 4 size tests.0 in
-    let inside : p + 4 + (size - 4) ≤ length b = inside_if_held b (p + 4) (size - 4) tests.1 in
-    let end : p + 4 + (size - 4) ≡ p + size = omega arith in
-    ap (λ (x : Pogo). bytes_of 4 x.signature ++ x.bytes) (sym tests.2)
-    ∙ join b (bytes_of 4 (le b p 4)) (range b (p + 4) (size - 4)) p (p + 4) (p + size) (bytes_of-le b p 4 small (omega arith)) (ap (slice_range b (p + 4)) end) (omega arith) (omega arith) (omega arith)
+spelled_pogo b p size r small e = grind (arith, passed_pogo, inside_if_held, join, bytes_of-le, nat_tests)
 
 -- what is returned is the stamp, or passed its tests
 pub passed_repro : (empty there inside : Bool) (i j : Refusal) (v w x : Repro) →
     (if empty then Ok v else outcome ((there, i) ∷ (inside, j) ∷ []) w) ≡ Ok x →
     (v ≡ x) ⊎ ((inside ≡ true) × (w ≡ x))
-passed_repro true there inside i j v w x e = inl cc
-passed_repro false true true i j v w x e = inr (refl, cc)
-passed_repro false true false i j v w x e = absurd cc
-passed_repro false false inside i j v w x e = absurd cc
+passed_repro empty there inside i j v w x e = grind arith
 
 spelled_stamp : (b : List ℕ) (p stamp : ℕ) → spell_repro (Stamp stamp) ≡ range b p (size_of_repro (Stamp stamp))
 unfolding spell_repro
@@ -121,16 +81,8 @@ spelled_stamp b p stamp = let none : p + 0 - p ≡ 0 = omega arith in rw none re
 
 spelled_buffer : (b : List ℕ) (p n : ℕ) → AreBytes b → n ≡ le b p 4 → p + 4 + n ≤ length b → spell_repro (Buffer n (range b (p + 4) n)) ≡ range b p (4 + n)
 unfolding spell_repro
-spelled_buffer b p n small is inside =
-    let end : p + 4 + n ≡ p + (4 + n) = omega arith in
-    join b (bytes_of 4 n) (range b (p + 4) n) p (p + 4) (p + (4 + n)) (ap (bytes_of 4) is ∙ bytes_of-le b p 4 small (omega arith)) (ap (slice_range b (p + 4)) end) (omega arith) (omega arith) (omega arith)
+spelled_buffer b p n small is inside = grind (arith, join, bytes_of-le)
 
 pub spelled_repro : (b : List ℕ) (p : ℕ) (e : ImageDebugDirectory) (r : Repro) → AreBytes b → repro_record b p e ≡ Ok r → spell_repro r ≡ range b p (size_of_repro r)
 unfolding repro_record
-spelled_repro b p e r small given =
-    let n : ℕ = le b p 4 in
-    let tests = passed_repro (e.size_of_data == 0) (holds b p 4) (holds b (p + 4) n) Short DebugData (Stamp e.time_date_stamp) (Buffer n (range b (p + 4) n)) r given in
-    elim tests as (λ t. spell_repro r ≡ range b p (size_of_repro r)) [
-      | inl is ↦ subst (λ (x : Repro). spell_repro x ≡ range b p (size_of_repro x)) is (spelled_stamp b p e.time_date_stamp)
-      | inr both ↦ subst (λ (x : Repro). spell_repro x ≡ range b p (size_of_repro x)) both.1 (spelled_buffer b p n small refl (inside_if_held b (p + 4) n both.0))
-    ]
+spelled_repro b p e r small given = grind (arith, passed_repro, spelled_stamp, spelled_buffer, inside_if_held)

@@ -1,21 +1,17 @@
 -- The blocks of a byte string, one by one.
-use Rattle.std.proofs.Common.{◌≡◌, ℕ, zero, suc, ◌+◌, ◌<◌, ◌≤◌, ◌==◌, Bool, true, false, List, [], ◌∷◌, length, take, drop, length-drop, map, Option, Some, None, Result, Ok, Err, if◌then◌else◌, refl, ap, sym, ◌∙◌, subst, arith, IsTrue, ◌↔◌}
+use Rattle.std.proofs.Common.{◌≡◌, ℕ, zero, suc, ◌<◌, ◌≤◌, ◌==◌, Bool, true, false, List, [], ◌∷◌, length, take, length-drop, map, Option, Some, None, Result, Ok, Err, refl, ap, sym, ◌∙◌, subst, arith, IsTrue, ◌↔◌}
 use Rattle.std.proofs.lemmas.Bool.{false≢true}
 use Rattle.std.proofs.lemmas.Bool.Decides.{nat_tests}
 use Rattle.std.proofs.lemmas.List.{places, take_all}
 use Rattle.std.proofs.lemmas.Slice.Eq.{bytes_eq-Decides}
-use Rattle.std.specs.Prelude.{nat_le}
 use Rattle.std.specs.Str.{bytes_eq}
 use Rattle.std.specs.Iterator.{Yields}
 use Rattle.std.specs.Option.{is_some}
-use Rattle.pe_core.specs.Bytes.{le, range, holds}
-use Rattle.pe_core.specs.Refusals.{Short, outcome}
 use Rattle.pe_resource.specs.declared.version_block.VersionBlock.{VersionBlock}
 use Rattle.pe_resource.specs.declared.version_block.VersionBlocks.{VersionBlocks}
 use Rattle.pe_resource.specs.declared.version_block_error.VersionBlockError.{VersionBlockError}
 use Rattle.pe_resource.proofs.Names.{same_test}
-use Rattle.pe_resource.specs.VersionStrings.{key_length, up_to_four}
-use Rattle.pe_resource.specs.VersionBlocks.{BlockRefusal, Image, BelowHead, PastEnd, Block, block_view, block_answer, block_kind_of, KeyEnd, ends_blocks, block_of, whole_block, rest_of, own_bytes, blocks_end, block_and_rest, first_block, then_blocks, blocks_up_to, blocks, ReturnsBlock, has_key, found_or, block_with_key}
+use Rattle.pe_resource.specs.VersionBlocks.{BlockRefusal, Block, block_view, block_answer, block_kind_of, ends_blocks, whole_block, rest_of, own_bytes, first_block, then_blocks, blocks_up_to, blocks, ReturnsBlock, has_key, found_or, block_with_key}
 
 -- ---- parts of bytes
 
@@ -27,35 +23,13 @@ all_before b n h = sym (take_all n b (omega (arith, h)))
 abbrev Item : Type 0
 Item = Result Block BlockRefusal
 
-own_at : (a c d : Bool) (b y x : List ℕ) (n : ℕ) → nat_le 6 n ≡ c → nat_le (0 + n) (length b) ≡ d → y ≡ range b 0 n → outcome ((a, Image Short) ∷ (c, BelowHead) ∷ (d, PastEnd) ∷ []) y ≡ Ok x → 6 ≤ length x
-own_at false c d b y x n p q e h = absurd (cc (h))
-own_at true false d b y x n p q e h = absurd (cc (h))
-own_at true true false b y x n p q e h = absurd (cc (h))
-own_at true true true b y x n p q e h =
-    let same : y ≡ x = cc (h) in
-    let size : length (range b 0 n) ≡ n = grind (arith, places, nat_tests, q) in
-    grind (arith, nat_tests, p, size, ap length e, ap length same)
-
 own_size : (b x : List ℕ) → own_bytes b ≡ Ok x → 6 ≤ length x
 unfolding own_bytes
-own_size b x h = own_at (holds b 0 6) (nat_le 6 (le b 0 2)) (holds b 0 (le b 0 2)) b (range b 0 (le b 0 2)) x (le b 0 2) refl refl refl h
-
-fewer_at : (ends : Bool) (own : Result (List ℕ) BlockRefusal) (b : List ℕ) (item : Item) (t : List ℕ) → blocks_end b ≡ ends → own_bytes b ≡ own → (if ends then None else Some (block_and_rest b own)) ≡ Some (item, t) → length t < length b
-fewer_at true own b item t e o h = absurd (cc (h))
-fewer_at false (Ok x) b item t e o h =
-    let pair : block_and_rest b (Ok x) ≡ (item, t) = cc (h) in
-    let rest : drop (up_to_four (length x)) b ≡ t = ap (λ (p : Item × List ℕ). p.1) pair in
-    let some : 0 < length b = grind (arith, nat_tests, e) in
-    grind (arith, length-drop {A = ℕ}, some, own_size b x o, ap length rest)
-fewer_at false (Err r) b item t e o h =
-    let pair : block_and_rest b (Err r) ≡ (item, t) = cc (h) in
-    let rest : [] ≡ t = ap (λ (p : Item × List ℕ). p.1) pair in
-    let some : 0 < length b = grind (arith, nat_tests, e) in
-    omega (arith, some, ap length rest)
+own_size b x h = grind (arith, places, nat_tests)
 
 pub fewer : (b : List ℕ) (item : Item) (t : List ℕ) → first_block b ≡ Some (item, t) → length t < length b
 unfolding first_block
-fewer b item t h = fewer_at (blocks_end b) (own_bytes b) b item t refl refl h
+fewer b item t h = grind (arith, nat_tests, length-drop, own_size)
 
 -- ---- the list of blocks, by its first
 
@@ -80,10 +54,7 @@ agree (suc n) (suc m) b h k =
 
 pub blocks_start : (b : List ℕ) → blocks b ≡ then_blocks blocks (first_block b)
 unfolding blocks
-blocks_start [] = rw (none_first [] (omega arith)) refl
-blocks_start (x ∷ xs) =
-    agree_at (blocks_up_to (length xs)) blocks (x ∷ xs) (first_block (x ∷ xs)) refl
-    (λ t few. agree (length xs) (length t) t (omega (arith, few)) (omega arith))
+blocks_start b = grind (arith, none_first, agree_at, agree)
 
 abbrev Read : Type 0
 Read = Result VersionBlock VersionBlockError
@@ -105,43 +76,25 @@ after_refusal None r = r
 after_refusal (Some e) r = found_or (block_kind_of e) r
 
 pub key_test : (us bytes name : List ℕ) (r : Bool) → bytes ≡ name → (IsTrue r ↔ (us ≡ bytes)) → r ≡ bytes_eq us name
-key_test us bytes name r is h =
-    same_test r (bytes_eq us name)
-    (λ e. (bytes_eq-Decides us name).1 (h.0 e ∙ is))
-    (λ e. h.1 ((bytes_eq-Decides us name).0 e ∙ sym is))
-
--- the block is found
-found_first : (name : List ℕ) (k : Block) (more : List Item) (e : Option VersionBlockError) → has_key name k ≡ true → after_refusal e (block_with_key name (Ok k ∷ more)) ≡ Ok (Some k)
-found_first name k more None h = rw h refl
-found_first name k more (Some e) h = rw h refl
+key_test us bytes name r is h = grind (arith, same_test, bytes_eq-Decides)
 
 pub found : (name b left : List ℕ) (r : Read) (k : VersionBlock) (e : Option VersionBlockError) (all : Found) → ReturnsBlock b (Some r) left → r ≡ Ok k → has_key name (block_view k) ≡ true → after_refusal e (block_with_key name (blocks b)) ≡ all → all ≡ Ok (Some (block_view k))
-found name b left r k e all h is key rest =
-    let first : blocks b ≡ Ok (block_view k) ∷ blocks left = blocks_more b left r h ∙ ap (λ (i : Read). block_answer block_view i ∷ blocks left) is in
-    sym rest ∙ ap (λ (xs : List Item). after_refusal e (block_with_key name xs)) first ∙ found_first name (block_view k) (blocks left) e key
-
--- it is not this one
-passed_by : (name : List ℕ) (k : Block) (more : List Item) → has_key name k ≡ false → block_with_key name (Ok k ∷ more) ≡ block_with_key name more
-passed_by name k more h = rw h refl
+found name b left r k e all h is key rest = grind (arith, blocks_more)
 
 pub goes_on : (name b left : List ℕ) (r : Read) (k : VersionBlock) (e : Option VersionBlockError) (all : Found) → ReturnsBlock b (Some r) left → r ≡ Ok k → has_key name (block_view k) ≡ false → after_refusal e (block_with_key name (blocks b)) ≡ all → after_refusal e (block_with_key name (blocks left)) ≡ all
 goes_on name b left r k e all h is key rest =
     let first : blocks b ≡ Ok (block_view k) ∷ blocks left = blocks_more b left r h ∙ ap (λ (i : Read). block_answer block_view i ∷ blocks left) is in
-    ap (after_refusal e) (sym (ap (block_with_key name) first ∙ passed_by name (block_view k) (blocks left) key)) ∙ rest
+    ap (after_refusal e) (sym (ap (block_with_key name) first ∙ (rw key refl))) ∙ rest
 
 -- a block that is not read: the first such one, and each after it
 refused : (name b left : List ℕ) (r : Read) (f : VersionBlockError) → ReturnsBlock b (Some r) left → r ≡ Err f → block_with_key name (blocks b) ≡ found_or (block_kind_of f) (block_with_key name (blocks left))
-refused name b left r f h is =
-    ap (block_with_key name) (blocks_more b left r h ∙ ap (λ (i : Read). block_answer block_view i ∷ blocks left) is)
+refused name b left r f h is = grind (arith, blocks_more)
 
 pub refused_first : (name b left : List ℕ) (r : Read) (f : VersionBlockError) (e : Option VersionBlockError) (all : Found) → ReturnsBlock b (Some r) left → r ≡ Err f → is_some e ≡ false → after_refusal e (block_with_key name (blocks b)) ≡ all → found_or (block_kind_of f) (block_with_key name (blocks left)) ≡ all
-refused_first name b left r f None all h is test rest = sym (refused name b left r f h is) ∙ rest
-refused_first name b left r f (Some e) all h is test rest = absurd (false≢true (sym test))
+refused_first name b left r f e all h is test rest = grind (arith, refused, false≢true)
 
 first_kept : (r s : BlockRefusal) (w : Found) → found_or r (found_or s w) ≡ found_or r w
-first_kept r s (Ok (Some k)) = refl
-first_kept r s (Ok None) = refl
-first_kept r s (Err t) = refl
+first_kept r s w = grind arith
 
 pub refused_again : (name b left : List ℕ) (r : Read) (f : VersionBlockError) (e : Option VersionBlockError) (all : Found) → ReturnsBlock b (Some r) left → r ≡ Err f → is_some e ≡ true → after_refusal e (block_with_key name (blocks b)) ≡ all → after_refusal e (block_with_key name (blocks left)) ≡ all
 refused_again name b left r f None all h is test rest = absurd (false≢true test)
@@ -150,8 +103,7 @@ refused_again name b left r f (Some e) all h is test rest =
 
 -- none has the key
 pub not_found : (name b left : List ℕ) (e f : Option VersionBlockError) (all : Found) → ReturnsBlock b None left → e ≡ f → after_refusal e (block_with_key name (blocks b)) ≡ all → all ≡ after_refusal f (Ok None)
-not_found name b left e f all h is rest =
-    sym rest ∙ ap (λ (xs : List Item). after_refusal e (block_with_key name xs)) (blocks_none b left h) ∙ ap (λ (x : Option VersionBlockError). after_refusal x (Ok None)) is
+not_found name b left e f all h is rest = grind (arith, rest, blocks_none b left h, is)
 
 -- ---- whole runs
 
@@ -160,32 +112,16 @@ Next s r t = ReturnsBlock (rest_of s) r (rest_of t)
 
 pub blocks_from_yields : (s t u : VersionBlocks) (xs : List Read) → Yields Next s xs t → Next t None u → map (block_answer block_view) xs ≡ blocks (rest_of s)
 blocks_from_yields s t u [] y end = sym (subst (λ (r : VersionBlocks). blocks (rest_of r) ≡ []) (sym y) (blocks_none (rest_of t) (rest_of u) end))
-blocks_from_yields s t u (x ∷ xs) y end =
-    ap (λ (l : List Item). block_answer block_view x ∷ l) (blocks_from_yields y.0 t u xs y.2 end) ∙ sym (blocks_more (rest_of s) (rest_of y.0) x y.1)
+blocks_from_yields s t u (x ∷ xs) y end = grind (arith, blocks_more, blocks_from_yields y.0 t u xs y.2 end)
 
 -- nothing comes after the bytes
 pub no_more : (b left : List ℕ) (r : Option Read) → b ≡ [] → ReturnsBlock b r left → r ≡ None
-no_more b left None e h = refl
-no_more b left (Some x) e h = let none : first_block b ≡ None = none_first b (omega (arith, ap length e)) in absurd (cc (none, h))
-
--- none are left after a block whose length is wrong
-key_alone_at : (ended : Bool) (k : Block) (r : BlockRefusal) → outcome ((ended, KeyEnd) ∷ []) k ≡ Err r → ends_blocks r ≡ true → ⊥
-key_alone_at true k r h e = cc (h)
-key_alone_at false k r h e = let same : KeyEnd ≡ r = cc (h) in false≢true (ap ends_blocks same ∙ e)
+no_more b left r e h = grind (arith, none_first)
 
 key_alone : (x : List ℕ) (r : BlockRefusal) → whole_block x ≡ Err r → ends_blocks r ≡ true → ⊥
 unfolding whole_block
-key_alone x r h e = key_alone_at (holds x (6 + key_length x 6) 2) (block_of x) r h e
-
-last_at : (ends : Bool) (own : Result (List ℕ) BlockRefusal) (b : List ℕ) (r : BlockRefusal) (t : List ℕ) → ends_blocks r ≡ true → (if ends then None else Some (block_and_rest b own)) ≡ Some (Err r, t) → t ≡ []
-last_at true own b r t e h = absurd (cc (h))
-last_at false (Ok x) b r t e h =
-    let pair : block_and_rest b (Ok x) ≡ (Err r, t) = cc (h) in
-    absurd (key_alone x r (ap (λ (p : Item × List ℕ). p.0) pair) e)
-last_at false (Err f) b r t e h =
-    let pair : block_and_rest b (Err f) ≡ (Err r, t) = cc (h) in
-    sym (ap (λ (p : Item × List ℕ). p.1) pair)
+key_alone x r h e = grind (arith, false≢true)
 
 pub last : (b : List ℕ) (r : BlockRefusal) (t : List ℕ) → ends_blocks r ≡ true → first_block b ≡ Some (Err r, t) → t ≡ []
 unfolding first_block
-last b r t e h = last_at (blocks_end b) (own_bytes b) b r t e h
+last b r t e h = grind (arith, key_alone)

@@ -1,21 +1,18 @@
 -- What the ranges of contents hold.
-use Rattle.std.proofs.Common.{◌≡◌, ℕ, ◌+◌, ◌≤◌, Bool, true, false, List, [], ◌∷◌, length, Option, Some, None, Result, Ok, Err, refl, ap, sym, ◌∙◌, subst, arith}
+use Rattle.std.proofs.Common.{◌≡◌, ℕ, List, Option, Some, None, Result, Ok, Err, refl, ap, sym, ◌∙◌, subst, arith}
 use Rattle.std.proofs.lemmas.Bool.Decides.{nat_tests}
 use Rattle.pe_core.proofs.Steps.{same_inside}
-use Rattle.pe_core.specs.Bytes.{holds}
 use Rattle.pe_core.specs.Offsets.{IsWithin}
-use Rattle.pe_core.specs.Refusals.{Refusal, Short, ResourceBounds, outcome, ◌>>=◌}
+use Rattle.pe_core.specs.Refusals.{Refusal, ◌>>=◌}
 use Rattle.pe_core.specs.declared.byte_range.ByteRange.{ByteRange}
 use Rattle.pe_core.specs.declared.data_directories.DataDirectory.{DataDirectory}
 use Rattle.pe_core.specs.declared.options.ParseOptions.{ParseOptions}
 use Rattle.pe_core.specs.declared.section_table.SectionTable.{SectionTable}
-use Rattle.pe_resource.specs.declared.content.ResourceDataEntry.{ResourceDataEntry}
 use Rattle.pe_resource.specs.declared.entry.ResourceEntry.{ResourceEntry}
 use Rattle.pe_resource.specs.declared.version.VersionName.{VersionName}
-use Rattle.pe_resource.specs.declared.version.VersionName.TheVariants as names
 use Rattle.pe_resource.specs.declared.version.VsFixedFileInfo.{VsFixedFileInfo}
-use Rattle.pe_resource.specs.Contents.{map_of, IsThere, data_entry_at, file_range, named_range, range_in, IsContentRange, content_of, IsContent, version_of_content, IsVersion}
-use Rattle.pe_resource.specs.Resources.{ResourceView, no_resources, FirstDirectoryView, first_directory, IsOfFirst, resources_with, AreResources, IsResource, IsResourceRange, IsManifestIn, IsVersionIn}
+use Rattle.pe_resource.specs.Contents.{map_of, IsThere, file_range, named_range, range_in, IsContentRange, content_of, IsContent, version_of_content, IsVersion}
+use Rattle.pe_resource.specs.Resources.{ResourceView, no_resources, FirstDirectoryView, first_directory, IsOfFirst, AreResources, IsResource, IsResourceRange, IsManifestIn, IsVersionIn}
 use Rattle.pe_resource.specs.VersionFields.{VersionView, file_strings, fixed_info_of, version_key, value_named, version_in, value_range_in}
 use Rattle.pe_resource.specs.VersionStrings.{VersionString, strings, read, value_of, value_range}
 use Rattle.pe_resource.proofs.OneAnswer.{one_content}
@@ -24,54 +21,26 @@ use Rattle.pe_resource.proofs.ValueRanges.{value_there}
 ok_not_refused : {X : Type 0} (x : X) (e : Refusal) → Path (Result X Refusal) (Ok x) (Err e) → ⊥
 ok_not_refused x e h = cc
 
-some_once : {X : Type 0} (x y : X) → Path (Option X) (Some x) (Some y) → x ≡ y
-some_once x y e = cc
-
 -- ---- a range that is found lies in the file
 
-tested : (t : Bool) (e : Refusal) (r s : ByteRange) → outcome ((t, e) ∷ []) r ≡ Ok s → (t ≡ true) × (r ≡ s)
-tested true e r s h = (refl, same_inside r s h)
-tested false e r s h = absurd cc
-
 file_within : (f : List ℕ) (size : ℕ) (o : Option ℕ) (r : ByteRange) → file_range f size o ≡ Ok r → IsWithin f r
-file_within f size None r h = absurd cc
-file_within f size (Some p) r h =
-    let is = tested (holds f p size) ResourceBounds (record { offset = p; length = size }) r h in
-    let fits : p + size ≤ length f = grind (arith, nat_tests, is.0) in
-    subst (IsWithin f) is.1 fits
-
-named_by : (t : Bool) (map : ℕ → Option ℕ) (f : List ℕ) (d : ResourceDataEntry) (r : ByteRange) → (outcome ((t, Short) ∷ []) d >>= λ d. file_range f d.size (map d.offset_to_data)) ≡ Ok r → IsWithin f r
-named_by true map f d r h = file_within f d.size (map d.offset_to_data) r h
-named_by false map f d r h = absurd cc
+file_within f size o r h = grind (arith, nat_tests, same_inside)
 
 named_within : (map : ℕ → Option ℕ) (f b : List ℕ) (p : ℕ) (r : ByteRange) → named_range map f b p ≡ Ok r → IsWithin f r
 unfolding named_range
-named_within map f b p r h = named_by (holds b p 16) map f (data_entry_at b p) r h
+named_within map f b p r h = grind (arith, file_within)
 
 given_some : (q : Result ByteRange Refusal) (r : ByteRange) → (q >>= λ r. Ok (Some r)) ≡ Ok (Some r) → q ≡ Ok r
-given_some (Ok s) r h = ap (λ (x : ByteRange). Ok x) (some_once s r (same_inside (Some s) (Some r) h))
-given_some (Err e) r h = absurd cc
+given_some q r h = grind (arith, same_inside)
 
 range_within : (map : ℕ → Option ℕ) (f b : List ℕ) (leaf : Result (Option ℕ) Refusal) (r : ByteRange) → Ok (Some r) ≡ (leaf >>= range_in map f b) → IsWithin f r
-range_within map f b (Err e) r h = absurd cc
-range_within map f b (Ok None) r h = absurd cc
-range_within map f b (Ok (Some p)) r h = named_within map f b p r (given_some (named_range map f b p) r (sym h))
-
-content_within : (map : ℕ → Option ℕ) (f b : List ℕ) (es : List ResourceEntry) (id : ℕ) (r : ByteRange) → IsContentRange map f b es id (Ok (Some r)) → IsWithin f r
-content_within map f b es id r h = range_within map f b h.0 r h.2
+range_within map f b leaf r h = grind (arith, named_within, given_some)
 
 -- ---- so what it holds is there
 
 there : (map : ℕ → Option ℕ) (f b : List ℕ) (es : List ResourceEntry) (id : ℕ) (c : Option ByteRange) → IsContentRange map f b es id (Ok c) → IsThere f c (content_of f c)
 there map f b es id None h = refl
-there map f b es id (Some r) h = (content_within map f b es id r h, refl)
-
-given_by : (d : FirstDirectoryView) (v : Result (Option VersionView) Refusal) (m : Result (Option (List ℕ)) Refusal) (x : ResourceView) → Ok x ≡ resources_with d v m → (m ≡ Ok x.manifest) × (v ≡ Ok x.version)
-given_by d (Err e) m x h = absurd (ok_not_refused x e h)
-given_by d (Ok v) (Err e) x h = absurd (ok_not_refused x e h)
-given_by d (Ok v) (Ok m) x h =
-    let same = same_inside x (record { directory = d.directory; first_entries = d.entries; version = v; manifest = m }) h in
-    (ap (λ (y : ResourceView). Ok y.manifest) (sym same), ap (λ (y : ResourceView). Ok y.version) (sym same))
+there map f b es id (Some r) h = (range_within map f b h.0 r h.2, refl)
 
 in_range : (map : ℕ → Option ℕ) (f b : List ℕ) (es : List ResourceEntry) (id : ℕ) (r : Result (Option ByteRange) Refusal) (m : Option (List ℕ)) → IsContentRange map f b es id r → IsContent map f b es id (Ok m) → IsManifestIn f r m
 in_range map f b es id (Err e) m h k = absurd (ok_not_refused m e (one_content map f b es id (Ok m) (Err e) k (Err e, h, refl)))
@@ -84,9 +53,7 @@ version_by map f b es r (Err e) v h k is = absurd (ok_not_refused v e is)
 version_by map f b es r (Ok m) v h k is = let found = in_range map f b es 16 r m h k in (found.0, m, found.1, found.2, sym is)
 
 of_resources : (map : ℕ → Option ℕ) (f : List ℕ) (d : FirstDirectoryView) (x : ResourceView) → AreResources map f d (Ok x) → IsContent map f d.bytes d.entries 24 (Ok x.manifest) × IsVersion map f d.bytes d.entries (Ok x.version)
-of_resources map f d x h =
-    let is = given_by d h.0 h.1 x h.4 in
-    (subst (IsContent map f d.bytes d.entries 24) is.0 h.3, subst (IsVersion map f d.bytes d.entries) is.1 h.2)
+of_resources map f d x h = grind (arith, ok_not_refused, same_inside)
 
 abbrev IsRangeOf : (ℕ → Option ℕ) → List ℕ → ℕ → FirstDirectoryView → Result (Option ByteRange) Refusal → Type 0
 IsRangeOf map f id d r = IsContentRange map f d.bytes d.entries id r
@@ -112,24 +79,10 @@ version_in_range o f d sections alignment x r h k = version_of_first (map_of o s
 -- ---- version information by its parts
 
 named : (name : VersionName) (ss : List VersionString) → value_of (version_key name) ss ≡ value_named name (file_strings ss)
-named names.Comments ss = refl
-named names.CompanyName ss = refl
-named names.FileDescription ss = refl
-named names.FileVersion ss = refl
-named names.InternalName ss = refl
-named names.LegalCopyright ss = refl
-named names.LegalTrademarks ss = refl
-named names.OriginalFilename ss = refl
-named names.PrivateBuild ss = refl
-named names.ProductName ss = refl
-named names.ProductVersion ss = refl
-named names.SpecialBuild ss = refl
+named name ss = grind arith
 
 parts_by : (b : List ℕ) (f : Result (Option VsFixedFileInfo) Refusal) (v : VersionView) → fixed_info_of b ≡ f → (f >>= λ f. Ok (record { fixed_info = f; strings = file_strings (read (strings b)) })) ≡ Ok v → (fixed_info_of b ≡ Ok v.fixed_info) × (file_strings (read (strings b)) ≡ v.strings)
-parts_by b (Err e) v is h = absurd cc
-parts_by b (Ok f) v is h =
-    let same : record { fixed_info = f; strings = file_strings (read (strings b)) } ≡ v = same_inside (record { fixed_info = f; strings = file_strings (read (strings b)) }) v h in
-    (is ∙ ap (λ (w : VersionView). Ok w.fixed_info) same, ap (λ (w : VersionView). w.strings) same)
+parts_by b f v is h = grind (arith, same_inside)
 
 pub version_fixed : (b : List ℕ) (v : VersionView) → version_in b ≡ Ok v → fixed_info_of b ≡ Ok v.fixed_info
 unfolding version_in

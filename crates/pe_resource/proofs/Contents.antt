@@ -1,5 +1,5 @@
 -- What entries lead to, put together.
-use Rattle.std.proofs.Common.{◌≡◌, ℕ, List, Option, Some, Result, Ok, Err, refl, ap, sym, ◌∙◌, subst}
+use Rattle.std.proofs.Common.{◌≡◌, ℕ, List, Option, Some, Result, Ok, Err, refl, ap, ◌∙◌, subst, arith}
 use Rattle.pe_core.specs.Refusals.{Refusal, ReturnsAs, ◌>>=◌, answer_by}
 use Rattle.pe_core.specs.declared.byte_range.ByteRange.{ByteRange}
 use Rattle.pe_core.specs.declared.error.Error.{Error}
@@ -12,8 +12,7 @@ use Rattle.pe_resource.specs.VersionFields.{VersionView}
 use Rattle.pe_resource.proofs.SomeResource.{some_content}
 
 pub given_answer : {X Y : Type 0} (view : X → Y) (r : Result X Error) (d : Result Y Refusal) → ReturnsAs view r d → answer_by view r ≡ d
-given_answer view (Ok x) d h = sym h
-given_answer view (Err e) d h = sym h
+given_answer view r d h = grind arith
 
 pub leaf_given : (b : List ℕ) (o : Option ResourceEntry) (e v : ResourceEntry) (p : Option ℕ) → Some e ≡ o → Walks b is_directory e (Ok v) → p ≡ data_offset v → IsLeaf b o (Ok p)
 leaf_given b o e v p is walks offset = subst (λ (x : Option ResourceEntry). IsLeaf b x (Ok p)) is (Ok v, walks, ap (λ (q : Option ℕ). Ok q) offset)

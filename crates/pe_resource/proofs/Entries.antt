@@ -1,5 +1,5 @@
 -- Entries from the front.
-use Rattle.std.proofs.Common.{◌≡◌, ℕ, ◌/◌, ◌<◌, ◌≤◌, List, [], ◌∷◌, length, map, drop, None, ap, sym, ◌∙◌, subst, arith}
+use Rattle.std.proofs.Common.{◌≡◌, ℕ, ◌/◌, ◌<◌, ◌≤◌, List, [], ◌∷◌, length, map, drop, None, sym, subst, arith}
 use Rattle.std.specs.Iterator.{Yields, YieldsFirstBy}
 use Rattle.pe_core.proofs.EntryItems.{whole_entries_more, whole_entries_none, count_of_whole_entries}
 use Rattle.pe_resource.specs.EntriesAfter.{entries_after}
@@ -25,5 +25,4 @@ entries_empty = entries_none [] (omega arith)
 
 pub list_from_yields : {S A B : Type 0} (view : A → B) (rest : S → List B) (s t u : S) (xs : List A) → Yields (YieldsFirstBy view rest) s xs t → YieldsFirstBy view rest t None u → map view xs ≡ rest s
 list_from_yields {S} view rest s t u [] y end = sym (subst (λ (r : S). rest r ≡ []) (sym y) end.0)
-list_from_yields {S} {A} {B} view rest s t u (x ∷ xs) y end =
-    ap (λ (l : List B). view x ∷ l) (list_from_yields view rest y.0 t u xs y.2 end) ∙ sym y.1
+list_from_yields {S} {A} {B} view rest s t u (x ∷ xs) y end = grind (arith, list_from_yields view rest y.0 t u xs y.2 end)

@@ -1,5 +1,5 @@
 -- Numbers and their halves.
-use Rattle.std.proofs.Common.{◌≡◌, ℕ, ◌+◌, ◌*◌, ◌/◌, ◌%◌, ◌<◌, ◌^◌, refl, arith}
+use Rattle.std.proofs.Common.{◌≡◌, ℕ, ◌<◌, ◌^◌, arith}
 use Rattle.pe_resource.specs.declared.entry.ResourceEntry.{ResourceEntry}
 use Rattle.pe_resource.specs.declared.version.VersionField.{VersionField}
 use Rattle.pe_resource.specs.ResourceEntries.{entry_of_number, number_of}
@@ -8,23 +8,11 @@ use Rattle.pe_resource.specs.VersionFields.{version_of_halves, high_half, low_ha
 pub number_back : (n : ℕ) → n < 2 ^ 64 → number_of (entry_of_number n) ≡ n
 number_back n h = omega arith
 
-high : (a b : ℕ) → b < 2 ^ 32 → (a * 2 ^ 32 + b) / 2 ^ 32 ≡ a
-high a b h = omega arith
-
-low : (a b : ℕ) → b < 2 ^ 32 → (a * 2 ^ 32 + b) % 2 ^ 32 ≡ b
-low a b h = omega arith
-
-high16 : (a b : ℕ) → b < 2 ^ 16 → (a * 2 ^ 16 + b) / 2 ^ 16 ≡ a
-high16 a b h = omega arith
-
-low16 : (a b : ℕ) → b < 2 ^ 16 → (a * 2 ^ 16 + b) % 2 ^ 16 ≡ b
-low16 a b h = omega arith
-
 pub entry_back : (e : ResourceEntry) → e.offset_to_data_or_directory < 2 ^ 32 → entry_of_number (number_of e) ≡ e
-entry_back e h = simp (high e.name_or_id e.offset_to_data_or_directory h, low e.name_or_id e.offset_to_data_or_directory h) refl
+entry_back e h = grind arith
 
 pub version_back : (v : VersionField) → v.minor < 2 ^ 16 → v.revision < 2 ^ 16 → version_of_halves (high_half v) (low_half v) ≡ v
-version_back v h k = simp (high16 v.major v.minor h, low16 v.major v.minor h, high16 v.build v.revision k, low16 v.build v.revision k) refl
+version_back v h k = grind arith
 
 pub high_back : (ms ls : ℕ) → high_half (version_of_halves ms ls) ≡ ms
 high_back ms ls = omega arith

@@ -7,9 +7,9 @@ use Rattle.pe_core.proofs.Equality.{both}
 use Rattle.pe_core.specs.Bytes.{range}
 use Rattle.std.proofs.lemmas.Slice.Eq.{bytes_eq-Decides}
 use Rattle.std.proofs.lemmas.Str.{encode_ascii, encodes_same}
-use Rattle.std.specs.Char.Utf16.{utf16_chars, lone_unit_char, is_high_surrogate, is_low_surrogate, surrogate_pair_char, has_unpaired_surrogate, utf16_lossy_chars}
+use Rattle.std.specs.Char.Utf16.{utf16_chars, lone_unit_char, is_high_surrogate, is_low_surrogate, has_unpaired_surrogate, utf16_lossy_chars}
 use Rattle.std.specs.List.{list_all, list_any}
-use Rattle.std.specs.Prelude.{nat_lt, nat_le}
+use Rattle.std.specs.Prelude.{nat_lt}
 use Rattle.std.specs.Str.{encode_utf8_all}
 use Rattle.pe_resource.specs.VersionStrings.{units, before_zero, key_length, text, is_name, is_plain, IsPlain, ArePlain}
 
@@ -26,22 +26,16 @@ small_from_plain (c ∷ cs) h =
     rw head (small_from_plain cs p.1)
 
 small_lone : (u : ℕ) → is_small u ≡ true → lone_unit_char u ≡ Some u
-small_lone u h =
-    let test : (nat_le 0xD800 u && nat_lt u 0xE000) ≡ false = grind (arith, nat_tests) in
-    rw test refl
+small_lone u h = grind (arith, nat_tests)
 
 small_not_high : (u : ℕ) (b : Bool) → is_small u ≡ true → (is_high_surrogate u && b) ≡ false
-small_not_high u b h =
-    let test : (nat_le 0xD800 u && nat_lt u 0xDC00) ≡ false = grind (arith, nat_tests) in
-    rw test refl
+small_not_high u b h = grind (arith, nat_tests)
 
 -- small units are their characters
 chars_small : (us : List ℕ) → list_all is_small us ≡ true → utf16_chars us ≡ map (λ c. Some c) us
 unfolding utf16_chars
 chars_small [] h = refl
-chars_small (u ∷ []) h =
-    let head : lone_unit_char u ≡ Some u = small_lone u (both (is_small u) true h).0 in
-    ap (λ (o : Option ℕ). o ∷ []) head
+chars_small (u ∷ []) h = grind (arith, small_lone, both)
 chars_small (u ∷ v ∷ us) h =
     let p = both (is_small u) (list_all is_small (v ∷ us)) h in
     let test = small_not_high u (is_low_surrogate v) p.0 in
@@ -61,22 +55,12 @@ encodes_small (c ∷ cs) h =
     let p = both (is_small c) (list_all is_small cs) h in
     ap (λ (l : List ℕ). l ++ encode_utf8_all cs) (encode_ascii c (grind (arith, nat_tests, p.0))) ∙ ap (λ (l : List ℕ). c ∷ l) (encodes_small cs p.1)
 
--- small characters are those of small units
-lone_at : (t : Bool) (u : ℕ) → is_small (unwrap_or (if◌then◌else◌ {A = Option ℕ} t None (Some u)) 0xFFFD) ≡ true → unwrap_or (if◌then◌else◌ {A = Option ℕ} t None (Some u)) 0xFFFD ≡ u
-lone_at true u h = cc
-lone_at false u h = refl
-
 lone_small : (u : ℕ) → is_small (unwrap_or (lone_unit_char u) 0xFFFD) ≡ true → unwrap_or (lone_unit_char u) 0xFFFD ≡ u
-lone_small u h = lone_at (nat_le 0xD800 u && nat_lt u 0xE000) u h
+lone_small u h = grind arith
 
 pair_at : (t : Bool) (u v : ℕ) (us : List ℕ) → (is_high_surrogate u && is_low_surrogate v) ≡ t → list_all is_small (utf16_lossy_chars (u ∷ v ∷ us)) ≡ true → (list_all is_small (utf16_lossy_chars (v ∷ us)) ≡ true → utf16_lossy_chars (v ∷ us) ≡ v ∷ us) → utf16_lossy_chars (u ∷ v ∷ us) ≡ u ∷ v ∷ us
 unfolding utf16_chars
-pair_at true u v us e h later =
-    let p = both (is_small (surrogate_pair_char u v)) (list_all is_small (utf16_lossy_chars us)) (rw e at h) in
-    absurd (grind (arith, nat_tests, p.0))
-pair_at false u v us e h later =
-    let p = both (is_small (unwrap_or (lone_unit_char u) 0xFFFD)) (list_all is_small (utf16_lossy_chars (v ∷ us))) (rw e at h) in
-    rw e (ap (λ (c : ℕ). c ∷ utf16_lossy_chars (v ∷ us)) (lone_small u p.0) ∙ ap (λ (l : List ℕ). u ∷ l) (later p.1))
+pair_at t u v us e h later = grind (arith, both, nat_tests, lone_small)
 
 lossy_small : (us : List ℕ) → list_all is_small (utf16_lossy_chars us) ≡ true → utf16_lossy_chars us ≡ us
 unfolding utf16_chars
@@ -90,20 +74,10 @@ abbrev text_of_units : List ℕ → Option (List ℕ)
 text_of_units us = if has_unpaired_surrogate us then None else Some (encode_utf8_all (utf16_lossy_chars us))
 
 name_at_units : (name : List ℕ) → IsPlain name → is_name name (text_of_units name) ≡ true
-name_at_units name h =
-    let small = small_from_plain name h in
-    let chars = chars_small name small in
-    let paired : has_unpaired_surrogate name ≡ false = ap (λ (os : List (Option ℕ)). list_any (λ o. not (is_some o)) os) chars ∙ no_gap name in
-    let same : encode_utf8_all (utf16_lossy_chars name) ≡ name = ap (λ (os : List (Option ℕ)). encode_utf8_all (map (λ o. unwrap_or o 0xFFFD) os)) chars ∙ ap encode_utf8_all (whole name) ∙ encodes_small name small in
-    rw paired ((bytes_eq-Decides (encode_utf8_all (utf16_lossy_chars name)) name).1 same)
+name_at_units name h = grind (arith, small_from_plain, chars_small, no_gap, whole, encodes_small, bytes_eq-Decides)
 
 units_at : (t : Bool) (us name : List ℕ) → IsPlain name → is_name name (if◌then◌else◌ {A = Option (List ℕ)} t None (Some (encode_utf8_all (utf16_lossy_chars us)))) ≡ true → us ≡ name
-units_at true us name plain h = absurd (false≢true h)
-units_at false us name plain h =
-    let small = small_from_plain name plain in
-    let same : encode_utf8_all (utf16_lossy_chars us) ≡ name = (bytes_eq-Decides (encode_utf8_all (utf16_lossy_chars us)) name).0 h in
-    let chars : utf16_lossy_chars us ≡ name = encodes_same (utf16_lossy_chars us) name (same ∙ sym (encodes_small name small)) in
-    sym (lossy_small us (ap (list_all is_small) chars ∙ small)) ∙ chars
+units_at t us name plain h = grind (arith, false≢true, small_from_plain, bytes_eq-Decides, encodes_same, encodes_small, lossy_small)
 
 -- ---- the units of a key
 
@@ -119,15 +93,11 @@ units_front (x ∷ []) = refl
 units_front (x ∷ y ∷ b) = front_at (x + 256 * y == 0) x y b (units_front b)
 
 pub same_test : (r s : Bool) → (r ≡ true → s ≡ true) → (s ≡ true → r ≡ true) → r ≡ s
-same_test true true f g = refl
-same_test true false f g = absurd (false≢true (f refl))
-same_test false true f g = absurd (false≢true (g refl))
-same_test false false f g = refl
+same_test r s f g = grind (arith, false≢true)
 
 -- the bytes of a key have no zero unit
 before_twice_at : (t : Bool) (u : ℕ) (us : List ℕ) → (u == 0) ≡ t → before_zero (before_zero us) ≡ before_zero us → before_zero (if t then [] else u ∷ before_zero us) ≡ (if t then [] else u ∷ before_zero us)
-before_twice_at true u us test later = refl
-before_twice_at false u us test later = rw test (ap (λ (l : List ℕ). u ∷ l) later)
+before_twice_at t u us test later = grind arith
 
 before_twice : (us : List ℕ) → before_zero (before_zero us) ≡ before_zero us
 before_twice [] = refl

@@ -1,5 +1,5 @@
 -- A walk has an answer, and so has what stands on it.
-use Rattle.std.proofs.Common.{◌≡◌, ℕ, suc, ◌<◌, Bool, true, false, List, length, Option, Some, None, Result, Ok, Err, IsSome, ⊎_elim, refl, ap, ◌∙◌}
+use Rattle.std.proofs.Common.{◌≡◌, ℕ, suc, ◌<◌, Bool, List, length, Option, Some, None, Result, Ok, Err, IsSome, ⊎_elim, refl, ap, ◌∙◌, rules, arith}
 use Rattle.pe_core.proofs.Pigeonhole.{StopsAfter, follows_from_decides, goes_or_stops, last_state, never_stops}
 use Rattle.pe_core.specs.Chains.{after}
 use Rattle.pe_core.specs.Refusals.{Refusal, Short, ResourceCycle, ◌>>=◌}
@@ -8,18 +8,17 @@ use Rattle.pe_core.specs.declared.data_directories.DataDirectory.{DataDirectory}
 use Rattle.pe_core.specs.declared.options.ParseOptions.{ParseOptions}
 use Rattle.pe_core.specs.declared.section_table.SectionTable.{SectionTable}
 use Rattle.pe_resource.specs.declared.entry.ResourceEntry.{ResourceEntry}
-use Rattle.pe_resource.specs.Contents.{map_of, IsLeaf, range_in, IsContentRange, content_of, IsContent, version_of_content, IsVersion}
+use Rattle.pe_resource.specs.Contents.{IsLeaf, range_in, IsContentRange, content_of, IsContent, version_of_content, IsVersion}
 use Rattle.pe_resource.specs.ResourceEntries.{directory_offset, with_id, is_directory, data_offset}
 use Rattle.pe_resource.specs.ResourceWalk.{step, decided, passed_on, passes, Walks}
-use Rattle.pe_resource.specs.Resources.{ResourceView, no_resources, FirstDirectoryView, first_directory, IsOfFirst, resources_with, AreResources, IsResource, IsResourceRange}
+use Rattle.pe_resource.specs.Resources.{ResourceView, FirstDirectoryView, IsOfFirst, resources_with, AreResources, IsResource, IsResourceRange}
 use Rattle.pe_resource.specs.VersionFields.{VersionView}
 use Rattle.pe_resource.proofs.Walks.{only_short, offset_decides, offsets_below}
 
 -- ---- walks
 
 failing : (p : ResourceEntry → Bool) (v : ResourceEntry) (t : Bool) → p v ≡ t → passed_on p (Ok (Some v)) ≡ None → decided p v (Ok (Some v)) ≡ Some (Ok v)
-failing p v true is none = absurd (let more : passed_on p (Ok (Some v)) ≡ Some v = rw is refl in cc)
-failing p v false is none = rw is refl
+failing p v t is none = grind arith
 
 abbrev Walked : List ℕ → (ResourceEntry → Bool) → ResourceEntry → Type 0
 Walked b p e = (r : Result ResourceEntry Refusal) × Walks b p e r
@@ -69,10 +68,7 @@ some_of_first none Reads (Ok None) some = (Ok none, refl)
 some_of_first none Reads (Ok (Some d)) some = some d
 
 pub some_resource : (o : ParseOptions) (f : List ℕ) (d : DataDirectory) (sections : List SectionTable) (alignment : ℕ) → (r : Result ResourceView Refusal) × IsResource o f d sections alignment r
-some_resource o f d sections alignment =
-    some_of_first no_resources (AreResources (map_of o sections alignment) f) (first_directory o f d sections alignment) (some_resources (map_of o sections alignment) f)
+some_resource o f d sections alignment = search (rules, arith, some_of_first, some_resources)
 
 pub some_range : (o : ParseOptions) (f : List ℕ) (d : DataDirectory) (id : ℕ) (sections : List SectionTable) (alignment : ℕ) → (r : Result (Option ByteRange) Refusal) × IsResourceRange o f d id sections alignment r
-some_range o f d id sections alignment =
-    some_of_first None (λ (d : FirstDirectoryView). IsContentRange (map_of o sections alignment) f d.bytes d.entries id) (first_directory o f d sections alignment)
-    (λ d. some_content_range (map_of o sections alignment) f d.bytes d.entries id)
+some_range o f d id sections alignment = search (rules, arith, some_of_first, some_content_range)

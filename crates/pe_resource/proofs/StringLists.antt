@@ -1,12 +1,11 @@
 -- The strings of a byte string, one by one.
-use Rattle.std.proofs.Common.{◌≡◌, ◌≢◌, ℕ, zero, suc, ◌<◌, ◌≤◌, ◌==◌, Bool, true, false, List, [], ◌∷◌, length, drop, length-drop, Option, Some, None, Result, Ok, Err, ⊎_elim, if◌then◌else◌, refl, ap, sym, ◌∙◌, subst, arith}
+use Rattle.std.proofs.Common.{◌≡◌, ◌≢◌, ℕ, zero, suc, ◌<◌, ◌≤◌, ◌==◌, true, List, [], ◌∷◌, length, drop, length-drop, Option, Some, None, Result, Ok, Err, if◌then◌else◌, refl, ap, sym, ◌∙◌, subst, arith}
 use Rattle.std.proofs.lemmas.Bool.Decides.{nat_tests}
-use Rattle.pe_core.specs.Bytes.{holds, le}
-use Rattle.pe_core.specs.Refusals.{Refusal, Short, outcome, kind_of}
-use Rattle.pe_core.specs.Refusals as refusals
+use Rattle.pe_core.specs.Bytes.{holds}
+use Rattle.pe_core.specs.Refusals.{Refusal, kind_of}
 use Rattle.pe_core.specs.declared.error.Error.{Error}
 use Rattle.pe_resource.specs.declared.string.ResourceString.{ResourceString}
-use Rattle.pe_resource.specs.VersionStrings.{VersionString, string_view, version_string_at, whole_string_at, string_and_next, is_short_text, value_bytes, value_offset, ReturnsString, then_more, strings_in, strings, all_read}
+use Rattle.pe_resource.specs.VersionStrings.{VersionString, string_view, version_string_at, whole_string_at, string_and_next, value_bytes, value_offset, ReturnsString, then_more, strings_in, strings, all_read}
 
 abbrev Pair : Type 0
 Pair = Option VersionString × ℕ
@@ -14,25 +13,14 @@ Pair = Option VersionString × ℕ
 abbrev Items : Type 0
 Items = List (Result VersionString Refusal)
 
--- a string that reads passed the last test, and is what the tests guard
-read_as : (t z a b c : Bool) (e f g : Refusal) (n : ℕ) (p : Pair) (s : VersionString) (q : ℕ) → (if t then (if z then Ok (None, n) else outcome ((a, e) ∷ (b, f) ∷ (c, g) ∷ []) p) else Err Short) ≡ Ok (Some s, q) → (c ≡ true) × (p ≡ (Some s, q))
-read_as false z a b c e f g n p s q h = cc
-read_as true true a b c e f g n p s q h = let same : Path Pair (None, n) (Some s, q) = cc in let none : Path (Option VersionString) None (Some s) = ap (λ (x : Pair). x.0) same in cc
-read_as true false false b c e f g n p s q h = cc
-read_as true false true false c e f g n p s q h = cc
-read_as true false true true false e f g n p s q h = cc
-read_as true false true true true e f g n p s q h = (refl, cc)
-
 pub string_read : (b : List ℕ) (s : VersionString) (q : ℕ) → version_string_at b 0 ≡ Ok (Some s, q) → (holds b (value_offset b 0) (value_bytes b 0) ≡ true) × (string_and_next b 0 ≡ (Some s, q))
 unfolding whole_string_at
-string_read b s q h = read_as (holds b 0 2) (le b 0 2 == 0) (holds b 2 4) (is_short_text b 0) (holds b (value_offset b 0) (value_bytes b 0)) Short refusals.ResourceString refusals.ResourceString 2 (string_and_next b 0) s q h
+string_read b s q h = grind arith
 
 -- a string ends after its start
 pub further : (b : List ℕ) (s : VersionString) (q : ℕ) → version_string_at b 0 ≡ Ok (Some s, q) → 0 < q
 unfolding string_and_next value_offset
-further b s q h =
-    let end : (string_and_next b 0).1 ≡ q = ap (λ (x : Pair). x.1) (string_read b s q h).1 in
-    omega (arith, end)
+further b s q h = grind (arith, string_read)
 
 -- the bound on the bytes doesn't matter
 agree_at : (f g : List ℕ → Items) (b : List ℕ) (r : Result Pair Refusal) → version_string_at b 0 ≡ r → ((q : ℕ) → 0 < q → f (drop q b) ≡ g (drop q b)) → then_more f b r ≡ then_more g b r
@@ -52,27 +40,17 @@ agree (suc n) (suc m) b h k =
 pub strings_start : (b : List ℕ) → b ≢ [] → strings b ≡ then_more strings b (version_string_at b 0)
 unfolding strings
 strings_start [] ne = absurd (ne refl)
-strings_start (x ∷ xs) ne =
-    let test : (length (x ∷ xs) == 0) ≡ false = grind (arith, nat_tests) in
-    rw test (agree_at (strings_in (length xs)) strings (x ∷ xs) (version_string_at (x ∷ xs) 0) refl
-    (λ q some. agree (length xs) (length (drop q (x ∷ xs))) (drop q (x ∷ xs)) (grind (arith, length-drop {A = ℕ})) (omega arith)))
+strings_start (x ∷ xs) ne = grind (arith, nat_tests, agree_at, agree, length-drop)
 
 pub strings_more : (b left : List ℕ) (s : ResourceString) → ReturnsString b (Some (Ok s)) left → strings b ≡ Ok (string_view s) ∷ strings left
 strings_more b left s h = strings_start b h.0 ∙ ap (then_more strings b) h.2 ∙ ap (λ (r : List ℕ). Ok (string_view s) ∷ strings r) (sym h.3)
-
-pub strings_refusal : (b left : List ℕ) (e : Error) → ReturnsString b (Some (Err e)) left → strings b ≡ Err (kind_of e) ∷ []
-strings_refusal b left e h = strings_start b h.0 ∙ ap (then_more strings b) h.1
 
 pub strings_empty : strings [] ≡ []
 unfolding strings
 strings_empty = refl
 
-ends : (b : List ℕ) (q : ℕ) → version_string_at b 0 ≡ Ok (None, q) → strings b ≡ []
-ends [] q h = strings_empty
-ends (x ∷ xs) q h = strings_start (x ∷ xs) (λ e. cc) ∙ ap (then_more strings (x ∷ xs)) h
-
 pub strings_none : (b left : List ℕ) → ReturnsString b None left → strings b ≡ []
-strings_none b left h = ⊎_elim (λ (e : b ≡ []). ap strings e ∙ strings_empty) (λ (k : (q : ℕ) × (version_string_at b 0 ≡ Ok (None, q))). ends b k.0 k.1) h.0
+strings_none b left h = grind (arith, strings_empty, strings_start)
 
 -- ---- passes over the strings
 
@@ -83,7 +61,7 @@ pub reads_on : (b left : List ℕ) (item : Item) (s : ResourceString) (all : Res
 reads_on b left item s all h is e = sym (ap all_read (strings_more b left s (subst (λ (i : Item). ReturnsString b (Some i) left) is h))) ∙ e
 
 pub reads_refusal : (b left : List ℕ) (item : Item) (r : Error) (all : Result (Unit {0}) Refusal) → ReturnsString b (Some item) left → item ≡ Err r → all_read (strings b) ≡ all → all ≡ Err (kind_of r)
-reads_refusal b left item r all h is e = sym e ∙ ap all_read (strings_refusal b left r (subst (λ (i : Item). ReturnsString b (Some i) left) is h))
+reads_refusal b left item r all h is e = grind (arith, strings_start)
 
 pub reads_all : (b left : List ℕ) (all : Result (Unit {0}) Refusal) → ReturnsString b None left → all_read (strings b) ≡ all → all ≡ Ok tt
 reads_all b left all h e = sym e ∙ ap all_read (strings_none b left h)

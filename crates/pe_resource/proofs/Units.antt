@@ -1,5 +1,5 @@
 -- The units of two bytes.
-use Rattle.std.proofs.Common.{◌≡◌, ℕ, zero, suc, ◌+◌, ◌*◌, ◌/◌, ◌<◌, ◌≤◌, ◌≢◌, ◌==◌, List, [], ◌∷◌, ◌++◌, length, add-zero, append_assoc, drop, get_or, true, false, refl, ap, sym, ◌∙◌, arith}
+use Rattle.std.proofs.Common.{◌≡◌, ℕ, zero, suc, ◌+◌, ◌*◌, ◌/◌, ◌<◌, ◌≤◌, ◌≢◌, List, [], ◌∷◌, ◌++◌, length, add-zero, append_assoc, drop, get_or, refl, ap, sym, ◌∙◌, arith}
 use Rattle.std.proofs.lemmas.Bool.Decides.{nat_tests}
 use Rattle.std.proofs.lemmas.List.{same_lists, get_or_default, append-nil}
 use Rattle.pe_core.specs.Bytes.{le}
@@ -31,34 +31,21 @@ same_from_each b name l e =
 
 front_is : (b : List ℕ) → 2 ≤ length b → units b ≡ le b 0 2 ∷ units (drop 2 b)
 unfolding le
-front_is [] h = absurd (omega arith)
-front_is (x ∷ []) h = absurd (omega arith)
-front_is (x ∷ y ∷ b) h =
-    let e : x + 256 * y ≡ 0 + x * 1 + y * 256 = omega arith in
-    ap (λ (n : ℕ). n ∷ units b) e
+front_is b h = grind arith
 
 -- the list up to the first zero, by the unit at the front
 pub front_more : (b : List ℕ) → 2 ≤ length b → le b 0 2 ≢ 0 → before_zero (units b) ≡ le b 0 2 ∷ before_zero (units (drop 2 b))
-front_more b h ne =
-    let t : (le b 0 2 == 0) ≡ false = grind (arith, nat_tests) in
-    ap before_zero (front_is b h) ∙ rw t refl
+front_more b h ne = grind (arith, nat_tests, front_is)
 
 pub front_zero : (b : List ℕ) → 2 ≤ length b → le b 0 2 ≡ 0 → before_zero (units b) ≡ []
-front_zero b h z =
-    let t : (le b 0 2 == 0) ≡ true = grind (arith, nat_tests) in
-    ap before_zero (front_is b h) ∙ rw t refl
+front_zero b h z = grind (arith, nat_tests, front_is)
 
 pub front_short : (b : List ℕ) → length b < 2 → before_zero (units b) ≡ []
-front_short [] h = refl
-front_short (x ∷ []) h = refl
-front_short (x ∷ y ∷ b) h = absurd (omega arith)
+front_short b h = grind arith
 
 -- the units so far and those before the first zero of the rest: at a zero, and after one more
 pub stops_here : (us rest all : List ℕ) → us ++ before_zero (units rest) ≡ all → 2 ≤ length rest → le rest 0 2 ≡ 0 → us ≡ all
 stops_here us rest all e h z = sym (append-nil us) ∙ ap (λ (r : List ℕ). us ++ r) (sym (front_zero rest h z)) ∙ e
 
 pub goes_on : (us vs rest left all : List ℕ) (u : ℕ) → us ++ before_zero (units rest) ≡ all → 2 ≤ length rest → u ≡ le rest 0 2 → u ≢ 0 → vs ≡ us ++ u ∷ [] → left ≡ drop 2 rest → vs ++ before_zero (units left) ≡ all
-goes_on us vs rest left all u e h is ne v l =
-    let front : before_zero (units rest) ≡ u ∷ before_zero (units left) =
-    front_more rest h (λ z. ne (is ∙ z)) ∙ ap (λ (n : ℕ). n ∷ before_zero (units (drop 2 rest))) (sym is) ∙ ap (λ (r : List ℕ). u ∷ before_zero (units r)) (sym l) in
-    ap (λ (r : List ℕ). r ++ before_zero (units left)) v ∙ append_assoc us (u ∷ []) (before_zero (units left)) ∙ ap (λ (r : List ℕ). us ++ r) (sym front) ∙ e
+goes_on us vs rest left all u e h is ne v l = grind (arith, front_more, append_assoc)

@@ -1,9 +1,8 @@
 -- Where values lie among strings.
-use Rattle.std.proofs.Common.{◌≡◌, ℕ, zero, suc, ◌+◌, ◌-◌, ◌<◌, ◌≤◌, Bool, true, false, List, [], ◌∷◌, length, drop, length-drop, All, IfSome, map, ext_get_or, get_or, Option, Some, None, Result, Ok, Err, if◌then◌else◌, refl, ap, sym, ◌∙◌, subst, arith}
+use Rattle.std.proofs.Common.{◌≡◌, ℕ, zero, suc, ◌+◌, ◌-◌, ◌<◌, ◌≤◌, Bool, true, List, [], ◌∷◌, length, drop, length-drop, All, IfSome, map, ext_get_or, get_or, Option, Some, None, Result, Ok, Err, if◌then◌else◌, refl, ap, sym, ◌∙◌, subst, arith, rules}
 use Rattle.std.proofs.lemmas.Bool.Decides.{nat_tests}
 use Rattle.std.proofs.lemmas.List.{places, same_lists, get_or-map, length-map, drop-drop}
 use Rattle.std.specs.Option.{option_map, option_or}
-use Rattle.std.specs.Prelude.{nat_le}
 use Rattle.pe_core.proofs.Ranges.{length_range, range_in_range}
 use Rattle.pe_core.specs.Bytes.{range, holds}
 use Rattle.pe_core.specs.Offsets.{bytes_in, IsWithin}
@@ -25,19 +24,13 @@ range_after b k p n h = same_lists _ _ (grind (arith, places)) (λ j d lt. grind
 
 -- a range of a range
 pub inner_bytes : (b : List ℕ) (outer r : ByteRange) → IsWithin b outer → IsWithin (bytes_in b outer) r → IsWithin b (inner outer r) × (bytes_in b (inner outer r) ≡ bytes_in (bytes_in b outer) r)
-inner_bytes b outer r h i =
-    let size : length (bytes_in b outer) ≡ outer.length = length_range b outer.offset outer.length h in
-    (omega (arith, size, i, h), range_in_range b outer.offset outer.length r.offset r.length h (omega (arith, size, i)))
+inner_bytes b outer r h i = grind (arith, length_range, range_in_range)
 
 -- ---- one string
 
-fits_by : (t : Bool) (v n m l : ℕ) → nat_le (v + n) l ≡ t → nat_le (v + m) l ≡ true → v + (if t then n else m) ≤ l
-fits_by true v n m l h k = grind (arith, nat_tests)
-fits_by false v n m l h k = grind (arith, nat_tests)
-
 lengthened_fits : (b : List ℕ) (p : ℕ) → holds b (value_offset b p) (value_bytes b p) ≡ true → value_offset b p + lengthened b p ≤ length b
 unfolding lengthened
-lengthened_fits b p h = fits_by (holds b (value_offset b p) (up_to_four (value_bytes b p))) (value_offset b p) (up_to_four (value_bytes b p)) (value_bytes b p) (length b) refl h
+lengthened_fits b p h = grind (arith, nat_tests)
 
 key_fits : (b : List ℕ) (n : ℕ) → value_offset b 0 + n ≤ length b → 6 + key_length b 6 ≤ length b
 unfolding value_offset
@@ -62,42 +55,22 @@ pub record IsPlaced (b : List ℕ) (s : VersionString) (q : ℕ) : Type 0 where
   pub value : s.value ≡ range b (value_start s) (length s.value)
 
 placed : (b : List ℕ) (s : VersionString) (q v n : ℕ) → value_start s ≡ v → v + n ≡ q → v + n ≤ length b → s.value ≡ range b v n → IsPlaced b s q
-placed b s q v n begin next fits value =
-    let many : length s.value ≡ n = ap length value ∙ length_range b v n fits in
-    record {
-      end = omega (arith, begin, many, next);
-      within = omega (arith, next, fits);
-      value = value ∙ (rw (begin, many) refl);
-    }
+placed b s q v n begin next fits value = grind (arith, length_range)
 
 pub string_placed : (b : List ℕ) (s : VersionString) (q : ℕ) → version_string_at b 0 ≡ Ok (Some s, q) → IsPlaced b s q
 unfolding string_and_next
-string_placed b s q h =
-    let reads = string_read b s q h in
-    let fits : value_offset b 0 + lengthened b 0 ≤ length b = lengthened_fits b 0 reads.0 in
-    let key : range b 6 (key_length b 6) ≡ s.key = ap (λ (x : Pair). key_in x.0) reads.1 in
-    let value : range b (value_offset b 0) (lengthened b 0) ≡ s.value = ap (λ (x : Pair). value_in x.0) reads.1 in
-    let next : value_offset b 0 + lengthened b 0 ≡ q = ap (λ (x : Pair). x.1) reads.1 in
-    let many : length s.key ≡ key_length b 6 = ap length (sym key) ∙ length_range b 6 (key_length b 6) (key_fits b (lengthened b 0) fits) in
-    placed b s q (value_offset b 0) (lengthened b 0) (ap (λ (n : ℕ). up_to_four (6 + n + 2)) many ∙ starts b) next fits (sym value)
+string_placed b s q h = search (rules, arith, string_read, lengthened_fits, length_range, key_fits, placed, starts)
 
 -- ---- all strings
 
 there_by : (t : Bool) (f : List ℕ) (s : VersionString) (r : ByteRange) (rest : Option ByteRange) (o : Option VersionString) → IsWithin f r → s.value ≡ bytes_in f r → IsThere f rest (option_map (λ x. x.value) o) → IsThere f (if t then Some r else rest) (option_map (λ (x : VersionString). x.value) (if t then Some s else o))
-there_by true f s r rest o within value later = (within, ap (λ (v : List ℕ). Some v) value)
-there_by false f s r rest o within value later = later
+there_by t f s r rest o within value later = grind arith
 
 there_at : (name f b : List ℕ) (p : ℕ) (r : Result Pair Refusal) → version_string_at b 0 ≡ r → b ≡ drop p f → p ≤ length f → ((q : ℕ) → 0 < q → q ≤ length b → IsThere f (value_range name (p + q) (read (strings (drop q b)))) (value_of name (read (strings (drop q b))))) → IsThere f (value_range name p (read (then_more strings b r))) (value_of name (read (then_more strings b r)))
 there_at name f b p (Err e) is after in_file later = refl
 there_at name f b p (Ok (None, q)) is after in_file later = refl
 there_at name f b p (Ok (Some s, q)) is after in_file later =
-    let string : IsPlaced b s q = string_placed b s q is in
-    let size : length b ≡ length f - p = ap length after ∙ length-drop p f in
-    let fits : value_start s + length s.value ≤ length (drop p f) = subst (λ (c : List ℕ). value_start s + length s.value ≤ length c) after (omega (arith, string.end, string.within)) in
-    let value : s.value ≡ range f (p + value_start s) (length s.value) = string.value ∙ ap (λ (c : List ℕ). range c (value_start s) (length s.value)) after ∙ range_after f p (value_start s) (length s.value) fits in
-    there_by (is_name name (text s.key)) f s (record { offset = p + value_start s; length = length s.value }) _ _
-    (omega (arith, string.end, string.within, size)) value
-    (subst (λ (n : ℕ). IsThere f (value_range name (p + n) (read (strings (drop q b)))) (value_of name (read (strings (drop q b))))) (sym string.end) (later q (further b s q is) string.within))
+    grind (arith, string_placed, length-drop, range_after, there_by, further)
 
 there_within : (n : ℕ) (name f b : List ℕ) (p : ℕ) → length b ≤ n → b ≡ drop p f → p ≤ length f → IsThere f (value_range name p (read (strings b))) (value_of name (read (strings b)))
 there_within n name f [] p h after in_file = subst (λ (xs : List (Result VersionString Refusal)). IsThere f (value_range name p (read xs)) (value_of name (read xs))) (sym strings_empty) refl
@@ -112,8 +85,7 @@ pub value_there : (name b : List ℕ) → IsThere b (value_range name 0 (read (s
 value_there name b = there_within (length b) name b b 0 (omega arith) refl (omega arith)
 
 bytes_there : (b : List ℕ) (r : Option ByteRange) (v : Option (List ℕ)) → IsThere b r v → content_of b r ≡ v
-bytes_there b None v h = sym h
-bytes_there b (Some r) v h = sym h.1
+bytes_there b r v h = grind arith
 
 -- the bytes of the range are the value
 pub range_of_value : (name b : List ℕ) → content_of b (value_range name 0 (read (strings b))) ≡ value_of name (read (strings b))
@@ -129,11 +101,7 @@ given b left item s h is = subst (λ (i : Item). ReturnsString b (Some i) left) 
 
 -- a string's value and what is left are no more than what was left before
 pub value_ends : (b left : List ℕ) (item : Item) (s : ResourceString) → ReturnsString b (Some item) left → item ≡ Ok s → value_start (string_view s) + length s.value.now + length left ≡ length b
-value_ends b left item s h is =
-    let gives = given b left item s h is in
-    let string : IsPlaced b (string_view s) gives.1 = string_placed b (string_view s) gives.1 gives.2 in
-    let rest : length left ≡ length b - gives.1 = ap length gives.3 ∙ length-drop gives.1 b in
-    omega (arith, rest, string.end, string.within)
+value_ends b left item s h is = grind (arith, given, string_placed, length-drop)
 
 -- the key of a string is measured
 pub key_measured : (b left : List ℕ) (item : Item) (s : ResourceString) → ReturnsString b (Some item) left → item ≡ Ok s → key_length s.key.now 0 ≡ length s.key.now
@@ -149,9 +117,7 @@ abbrev if_here : Bool → ByteRange → Option ByteRange
 if_here t r = if t then Some r else None
 
 one_by : (t : Bool) (here range : ByteRange) (rest old v : Option ByteRange) → range ≡ here → option_or old (if t then Some here else rest) ≡ v → option_or (option_or old (if_here t range)) rest ≡ v
-one_by t here range rest (Some r) v is e = e
-one_by true here range rest None v is e = ap (λ (r : ByteRange). Some r) is ∙ e
-one_by false here range rest None v is e = e
+one_by t here range rest old v is e = grind arith
 
 -- what is kept of a name, one string further
 pub one_further : (size : ℕ) (name b left : List ℕ) (item : Item) (s : ResourceString) (old new v : Option ByteRange) → length b ≤ size → ReturnsString b (Some item) left → item ≡ Ok s → new ≡ option_or old (if_here (is_name name (text s.key.now)) (record { offset = size - length left - length s.value.now; length = length s.value.now })) → option_or old (value_range name (size - length b) (read (strings b))) ≡ v → option_or new (value_range name (size - length left) (read (strings left))) ≡ v
@@ -166,24 +132,18 @@ one_further size name b left item s old new v inside h is kept e =
     (ap (λ (xs : List (Result VersionString Refusal)). option_or old (value_range name (size - length b) (read xs))) (sym (strings_more b left s (given b left item s h is))) ∙ e)
 
 kept_alone : (o : Option ByteRange) → option_or o None ≡ o
-kept_alone None = refl
-kept_alone (Some r) = refl
+kept_alone o = grind arith
 
 -- and at the end
 all_kept : (p : ℕ) (name b left : List ℕ) (old v : Option ByteRange) → ReturnsString b None left → option_or old (value_range name p (read (strings b))) ≡ v → v ≡ old
-all_kept p name b left old v h e =
-    sym e ∙ ap (λ (xs : List (Result VersionString Refusal)). option_or old (value_range name p (read xs))) (strings_none b left h) ∙ kept_alone old
+all_kept p name b left old v h e = grind (arith, e, strings_none b left h, kept_alone old)
 
 -- before the first string nothing is kept
 pub start_kept : (name b left : List ℕ) (old : Option ByteRange) → left ≡ b → old ≡ None → option_or old (value_range name (length b - length left) (read (strings left))) ≡ value_range name 0 (read (strings b))
-start_kept name b left old is none =
-    let start : length b - length b ≡ 0 = omega arith in
-    ap (λ (o : Option ByteRange). option_or o (value_range name (length b - length left) (read (strings left)))) none
-    ∙ ap (λ (l : List ℕ). value_range name (length b - length l) (read (strings l))) is ∙ ap (λ (p : ℕ). value_range name p (read (strings b))) start
+start_kept name b left old is none = grind arith
 
 within_there : (b : List ℕ) (r : Option ByteRange) (v : Option (List ℕ)) → IsThere b r v → IfSome r (IsWithin b)
-within_there b None v h = tt
-within_there b (Some r) v h = h.0
+within_there b r v h = grind arith
 
 pub all_within : (names : List (List ℕ)) (b : List ℕ) → All (λ r. IfSome r (IsWithin b)) (map (λ name. value_range name 0 (read (strings b))) names)
 all_within names b k d h =
@@ -203,13 +163,6 @@ found now keys all b left ranges ends many reads kept =
       subst (All (λ r. IfSome r (IsWithin all))) same (all_within (map now keys) all),
     )
 
-read_by : {X : Type 0} (r : Result (Unit {0}) Refusal) (x y : X) → (r >>= λ _. Ok x) ≡ Ok y → (r ≡ Ok tt) × (x ≡ y)
-read_by (Ok tt) x y h = (refl, cc)
-read_by (Err e) x y h = absurd cc
-
 pub value_of_range : (names : List (List ℕ)) (b : List ℕ) (ranges : List (Option ByteRange)) (k : ℕ) (d : Option ByteRange) → value_ranges names b ≡ Ok ranges → k < length names → content_of b (get_or ranges k d) ≡ value_of (get_or names k []) (read (strings b))
 unfolding value_ranges
-value_of_range names b ranges k d h lt =
-    let same = (read_by (all_read (strings b)) (map (λ (name : List ℕ). value_range name 0 (read (strings b))) names) ranges h).1 in
-    ap (λ (rs : List (Option ByteRange)). content_of b (get_or rs k d)) (sym same)
-    ∙ ap (content_of b) (get_or-map (λ (name : List ℕ). value_range name 0 (read (strings b))) names k [] d lt) ∙ range_of_value (get_or names k []) b
+value_of_range names b ranges k d h lt = grind (arith, get_or-map, range_of_value)

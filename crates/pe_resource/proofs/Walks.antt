@@ -1,11 +1,10 @@
 -- Where a walk has come to, and why an offset that comes again never ends.
-use Rattle.std.proofs.Common.{◌≡◌, ℕ, suc, ◌+◌, ◌<◌, ◌≤◌, Bool, true, false, cond, List, length, Option, Some, None, Result, Ok, Err, ◌↔◌, refl, ap, sym, ◌∙◌, subst, [], ◌∷◌, arith, add-one, is_some, ⊎_elim}
+use Rattle.std.proofs.Common.{◌≡◌, ℕ, suc, ◌+◌, ◌<◌, Bool, true, false, List, length, Option, Some, None, Result, Ok, Err, ◌↔◌, refl, ap, sym, ◌∙◌, subst, arith, add-one, is_some}
 use Rattle.std.proofs.lemmas.Bool.{cases_lt}
 use Rattle.std.proofs.lemmas.Bool.Decides.{nat_tests}
 use Rattle.pe_core.proofs.Steps.{other_value}
 use Rattle.pe_core.specs.Chains.{after, KeyDecides, HasKeysBelow}
-use Rattle.pe_core.specs.Bytes.{holds}
-use Rattle.pe_core.specs.Refusals.{Refusal, Memory, Short, ResourceCycle, outcome}
+use Rattle.pe_core.specs.Refusals.{Refusal, Memory, Short, ResourceCycle}
 use Rattle.pe_core.proofs.Pigeonhole.{follows_from_decides, never_stops, repeats, stops_at, after_more}
 use Rattle.pe_resource.specs.declared.entry.ResourceEntry.{ResourceEntry}
 use Rattle.pe_resource.specs.ResourceEntries.{directory_offset}
@@ -16,15 +15,10 @@ offset_decides b p x y same = ap (λ (q : ℕ). passed_on p (first_at b q)) same
 
 past_end : (b : List ℕ) (q : ℕ) → length b < q + 16 → first_at b q ≡ Err Short
 unfolding first_at
-past_end b q h =
-    let test : holds b q 16 ≡ false = grind (arith, nat_tests) in rw test refl
+past_end b q h = grind (arith, nat_tests)
 
 pub offsets_below : (b : List ℕ) (p : ResourceEntry → Bool) → HasKeysBelow (passes b p) directory_offset (length b)
-offsets_below b p x a to =
-    ⊎_elim
-    (λ (past : length b < directory_offset x + 16). absurd (let none : passes b p x ≡ None = ap (passed_on p) (past_end b (directory_offset x) past) in cc))
-    (λ (inside : directory_offset x + 16 ≤ length b). omega arith)
-    (cases_lt (length b) (directory_offset x + 16))
+offsets_below b p = grind (arith, past_end, cases_lt)
 
 -- the walk has come to this entry, and the saved offset is that of an earlier one or its own
 pub record WalkedTo (b : List ℕ) (p : ResourceEntry → Bool) (e : ResourceEntry) (k : ℕ) (current : ResourceEntry) (saved : ℕ) : Type 0 where
@@ -75,15 +69,8 @@ too_long b p e k x saved h same =
     let more : after (passes b p) (suc (length b)) e ≡ Some x = subst (λ (m : ℕ). after (passes b p) m e ≡ Some x) (same ∙ add-one (length b)) h.reached in
     never_stops (passes b p) directory_offset (length b) (follows_from_decides (passes b p) directory_offset (offset_decides b p)) (offsets_below b p) e (ap is_some more)
 
--- what decides passes nothing on
-none_at : (b : Bool) (v : ResourceEntry) (r : Result ResourceEntry Refusal) → cond b None (Some (Ok v)) ≡ Some r → cond b (Some v) None ≡ None
-none_at true v r h = cc
-none_at false v r h = refl
-
 pub none_from_decided : (p : ResourceEntry → Bool) (w : ResourceEntry) (s : Result (Option ResourceEntry) Refusal) (r : Result ResourceEntry Refusal) → decided p w s ≡ Some r → passed_on p s ≡ None
-none_from_decided p w (Err e) r h = refl
-none_from_decided p w (Ok None) r h = refl
-none_from_decided p w (Ok (Some v)) r h = none_at (p v) v r h
+none_from_decided p w s r h = grind arith
 
 decided_ends : (b : List ℕ) (p : ResourceEntry → Bool) (e : ResourceEntry) (r : Result ResourceEntry Refusal) → Decides b p e r → IsEndlessWalk b p e → ⊥
 decided_ends b p e r d never = stops_at (passes b p) d.0 e d.1 d.2 (none_from_decided p d.1 (step b d.1) r d.3) never
@@ -94,24 +81,16 @@ cycle_is_endless b p e (Err Short) d = (λ same. cc, λ never. absurd (decided_e
 cycle_is_endless b p e (Err ResourceCycle) d = (λ same. d, λ never. refl)
 cycle_is_endless b p e (Err other) d = absurd d
 
-short_at : {X : Type 0} (s t : Bool) (x : X) (e : Refusal) → outcome ((s, Short) ∷ (t, Short) ∷ []) x ≡ Err e → e ≡ Short
-short_at true true x e h = cc
-short_at true false x e h = cc
-short_at false t x e h = cc
-
 -- a step is refused as short alone
 pub only_short : (b : List ℕ) (q : ℕ) (e : Refusal) → first_at b q ≡ Err e → e ≡ Short
 unfolding first_at
-only_short b q e h = short_at _ _ _ e h
+only_short b q e h = grind arith
 
 pub no_memory_answer : {X : Type 0} (b : List ℕ) (x : ResourceEntry) (f : Refusal) → step b x ≡ Err f → Path (Result X Refusal) (Err f) (Err Memory) → ⊥
 no_memory_answer b x f is e = let same : f ≡ Short = only_short b (directory_offset x) f is in let other : f ≡ Memory = cc in cc
 
 pub walks_refusal : (b : List ℕ) (p : ResourceEntry → Bool) (e : ResourceEntry) (k : ℕ) (x : ResourceEntry) (saved : ℕ) (f : Refusal) → WalkedTo b p e k x saved → step b x ≡ Err f → Walks b p e (Err f)
-walks_refusal b p e k x saved f h is =
-    let same : f ≡ Short = only_short b (directory_offset x) f is in
-    let short : step b x ≡ Err Short = subst (λ (g : Refusal). step b x ≡ Err g) same is in
-    subst (λ (g : Refusal). Walks b p e (Err g)) (sym same) (k, x, h.reached, ap (decided p x) short)
+walks_refusal b p e k x saved f h is = grind (arith, only_short)
 
 pub decides_last : (b : List ℕ) (p : ResourceEntry → Bool) (e : ResourceEntry) (k : ℕ) (x : ResourceEntry) (saved : ℕ) → WalkedTo b p e k x saved → step b x ≡ Ok None → Decides b p e (Ok x)
 decides_last b p e k x saved h is = (k, x, h.reached, ap (decided p x) is)

@@ -1,5 +1,5 @@
 -- The one ARM64 code of each byte string.
-use Rattle.std.proofs.Common.{◌≡◌, ◌<◌, ◌≤◌, ℕ, zero, suc, ◌+◌, ◌-◌, ◌*◌, ◌/◌, ◌%◌, true, false, if◌then◌else◌, nat_lt, ◌==◌, List, [], ◌∷◌, ◌++◌, length, get_or, drop, take, refl, ap, sym, ◌∙◌, arith, append_assoc}
+use Rattle.std.proofs.Common.{◌≡◌, ◌<◌, ◌≤◌, ℕ, zero, suc, ◌+◌, ◌-◌, ◌*◌, ◌/◌, ◌%◌, true, false, if◌then◌else◌, nat_lt, ◌==◌, List, [], ◌∷◌, ◌++◌, length, get_or, drop, take, refl, ap, sym, ◌∙◌, arith, append_assoc, rules}
 use Rattle.std.proofs.lemmas.Bool.Decides.{nat_tests}
 use Rattle.pe_unwind.specs.declared.arm64.codes.Arm64CustomStackCase.TheVariants.{TrapFrame, MachineFrame, Context, EcContext, ClearUnwoundToCall}
 use Rattle.pe_unwind.specs.declared.arm64.codes.Arm64UnwindCode.{Arm64UnwindCode}
@@ -183,47 +183,10 @@ code_of-reserved_3 b v h = grind (arith, nat_tests)
 code_of-reserved_4 : (b v : ℕ) → Legal (Reserved b v 4) → code_of (encoding (Reserved b v 4)) ≡ Reserved b v 4
 code_of-reserved_4 b v h = grind (arith, nat_tests)
 
--- the bytes of a legal code give the code
-pub code_of-encoding : (c : Arm64UnwindCode) → Legal c → code_of (encoding c) ≡ c
-code_of-encoding (AllocSmall n) h = code_of-AllocSmall n h
-code_of-encoding (SaveR19R20Preindexed o) h = code_of-SaveR19R20Preindexed o h
-code_of-encoding (SaveFpLr o) h = code_of-SaveFpLr o h
-code_of-encoding (SaveFpLrPreindexed o) h = code_of-SaveFpLrPreindexed o h
-code_of-encoding (AllocMedium n) h = code_of-AllocMedium n h
-code_of-encoding (SaveRegPair r o) h = code_of-SaveRegPair r o h
-code_of-encoding (SaveRegPairPreindexed r o) h = code_of-SaveRegPairPreindexed r o h
-code_of-encoding (SaveReg r o) h = code_of-SaveReg r o h
-code_of-encoding (SaveRegPreindexed r o) h = code_of-SaveRegPreindexed r o h
-code_of-encoding (SaveLrPair r o) h = code_of-SaveLrPair r o h
-code_of-encoding (SaveFRegPair r o) h = code_of-SaveFRegPair r o h
-code_of-encoding (SaveFRegPairPreindexed r o) h = code_of-SaveFRegPairPreindexed r o h
-code_of-encoding (SaveFReg r o) h = code_of-SaveFReg r o h
-code_of-encoding (SaveFRegPreindexed r o) h = code_of-SaveFRegPreindexed r o h
-code_of-encoding (AllocZ z) h = code_of-AllocZ z h
-code_of-encoding (AllocLarge n) h = code_of-AllocLarge n h
-code_of-encoding (AddFp z o) h = code_of-AddFp z o h
-code_of-encoding (SaveAnyReg k true true r o) h = code_of-any_true_true k r o h
-code_of-encoding (SaveAnyReg k true false r o) h = code_of-any_true_false k r o h
-code_of-encoding (SaveAnyReg k false true r o) h = code_of-any_false_true k r o h
-code_of-encoding (SaveAnyReg k false false r o) h = code_of-any_false_false k r o h
-code_of-encoding (SaveZReg r o) h = code_of-SaveZReg r o h
-code_of-encoding (SavePReg r o) h = code_of-SavePReg r o h
-code_of-encoding (CustomStack TrapFrame) h = refl
-code_of-encoding (CustomStack MachineFrame) h = refl
-code_of-encoding (CustomStack Context) h = refl
-code_of-encoding (CustomStack EcContext) h = refl
-code_of-encoding (CustomStack ClearUnwoundToCall) h = refl
-code_of-encoding (Reserved b v zero) h = code_of-reserved_0 b v h
-code_of-encoding (Reserved b v (suc zero)) h = code_of-reserved_1 b v h
-code_of-encoding (Reserved b v (suc (suc zero))) h = code_of-reserved_2 b v h
-code_of-encoding (Reserved b v (suc (suc (suc zero)))) h = code_of-reserved_3 b v h
-code_of-encoding (Reserved b v (suc (suc (suc (suc zero))))) h = code_of-reserved_4 b v h
-code_of-encoding (Reserved b v (suc (suc (suc (suc (suc n)))))) h = absurd h
-code_of-encoding other h = refl
-
 -- two legal codes are equal exactly if their bytes are
 pub encoding_once : (c d : Arm64UnwindCode) → Legal c → Legal d → encoding c ≡ encoding d → c ≡ d
-encoding_once c d h k same = sym (code_of-encoding c h) ∙ ap code_of same ∙ code_of-encoding d k
+encoding_once c d h k same =
+    search (rules, arith, code_of-AllocSmall, code_of-SaveR19R20Preindexed, code_of-SaveFpLr, code_of-SaveFpLrPreindexed, code_of-AllocMedium, code_of-SaveRegPair, code_of-SaveRegPairPreindexed, code_of-SaveReg, code_of-SaveRegPreindexed, code_of-SaveLrPair, code_of-SaveFRegPair, code_of-SaveFRegPairPreindexed, code_of-SaveFReg, code_of-SaveFRegPreindexed, code_of-AllocZ, code_of-AllocLarge, code_of-AddFp, code_of-any_true_true, code_of-any_true_false, code_of-any_false_true, code_of-any_false_false, code_of-SaveZReg, code_of-SavePReg, code_of-reserved_0, code_of-reserved_1, code_of-reserved_2, code_of-reserved_3, code_of-reserved_4)
 
 take_front : (a b : List ℕ) → take (length a) (a ++ b) ≡ a
 take_front a b = grind (arith, common_steps)
@@ -238,15 +201,8 @@ starts_once bytes c d h k =
     let same : length (encoding c) ≡ length (encoding d) = sym len_c ∙ len_d in
     encoding_once c d h.legal k.legal (sym front_c ∙ ap (λ (n : ℕ). take n bytes) same ∙ front_d)
 
-drop_front : (a b : List ℕ) → drop (length a) (a ++ b) ≡ b
-drop_front a b = grind (arith, common_steps)
-
 whole_front : (a : List ℕ) → a ≡ a ++ drop (length a) a
 whole_front a = grind (arith, common_steps)
-
--- a code's bytes start with it
-whole_starts : (c : Arm64UnwindCode) → Legal c → StartsWithArm64Code (encoding c) c
-whole_starts c legal = record { legal = legal; spelled = whole_front (encoding c) }
 
 -- a code's bytes without their end start with no code
 none_of_more : (bytes : List ℕ) (d c : Arm64UnwindCode) (missing : List ℕ) → Legal d → 0 < length missing → bytes ++ missing ≡ encoding d → StartsWithArm64Code bytes c → ⊥
@@ -254,8 +210,8 @@ none_of_more bytes d c missing legal some spelled h =
     let n : ℕ = length (encoding c) in
     let fits : n ≤ length bytes = omega (arith, ap (λ (x : List ℕ). length x) h.spelled, length-append (encoding c) (drop n bytes)) in
     let first : encoding d ≡ encoding c ++ (drop n bytes ++ missing) = sym spelled ∙ ap (λ (x : List ℕ). x ++ missing) h.spelled ∙ append_assoc (encoding c) (drop n bytes) missing in
-    let c_first : StartsWithArm64Code (encoding d) c = record { legal = h.legal; spelled = first ∙ ap (λ (x : List ℕ). encoding c ++ x) (sym (ap (drop n) first ∙ drop_front (encoding c) (drop n bytes ++ missing))) } in
-    let same : c ≡ d = starts_once (encoding d) c d c_first (whole_starts d legal) in
+    let c_first : StartsWithArm64Code (encoding d) c = record { legal = h.legal; spelled = first ∙ ap (λ (x : List ℕ). encoding c ++ x) (sym (ap (drop n) first ∙ (grind (arith, common_steps)))) } in
+    let same : c ≡ d = starts_once (encoding d) c d c_first (record { legal = legal; spelled = whole_front (encoding d) }) in
     let long : length (encoding d) ≡ length bytes + length missing = sym (ap (λ (x : List ℕ). length x) spelled) ∙ length-append bytes missing in
     let as_long : n ≡ length (encoding d) = ap (λ (x : Arm64UnwindCode). length (encoding x)) same in
     omega arith

@@ -1,13 +1,13 @@
 -- An ARM64 unwind record that is returned is the concatenation of its parts.
-use Rattle.std.proofs.Common.{◌≡◌, ℕ, ◌+◌, ◌-◌, ◌*◌, ◌≤◌, Bool, true, false, List, [], ◌∷◌, ◌++◌, length, take, drop, Option, Some, None, Ok, refl, ap, sym, ◌∙◌, subst, arith}
-use Rattle.std.specs.Prelude.{if◌then◌else◌, is_some, IfSome, ◌==◌}
+use Rattle.std.proofs.Common.{◌≡◌, ℕ, ◌+◌, ◌-◌, ◌*◌, ◌≤◌, Bool, true, false, List, ◌++◌, length, take, drop, Option, Some, None, Ok, refl, ap, sym, ◌∙◌, subst, arith, rules}
+use Rattle.std.specs.Prelude.{if◌then◌else◌, is_some, IfSome}
 use Rattle.std.specs.Option.{option_map}
 use Rattle.std.proofs.lemmas.List.{take-append-drop, drop-drop}
 use Rattle.pe_core.proofs.Ranges.{length_range, inside_if_held, held_if_inside}
 use Rattle.pe_core.proofs.NumberBytes.{bytes_of-le}
 use Rattle.pe_core.specs.Bytes.{AreBytes, le, bytes_of, holds, range}
 use Rattle.std.proofs.lemmas.Bool.{eqb-true}
-use Rattle.pe_core.specs.Refusals.{Refusal, Short, Arm64Version, outcome}
+use Rattle.pe_core.specs.Refusals.{outcome}
 use Rattle.pe_unwind.specs.Arm64Record.{Arm64HandlerView, Arm64InfoView, extension_size, extension_at, scope_count, code_words, handler_size, handler_at, scopes_offset, record_size, info_with, info_tests, info_at, size_at, word_bytes, AreRecord}
 use Rattle.pe_unwind.specs.Arm64Words.{bits, has_handler, has_extension}
 use Rattle.pe_core.specs.Offsets.{StandAt}
@@ -21,18 +21,6 @@ codes_offset p header extension = scopes_offset p header + 4 * scope_count heade
 abbrev handler_offset : ℕ → ℕ → Option ℕ → ℕ
 handler_offset p header extension = codes_offset p header extension + 4 * code_words header extension
 
--- what is returned passed its tests
-passed : {Y : Type 0} (s t u v w x : Bool) (i j k l m n : Refusal) (y o : Y) →
-    outcome ((s, i) ∷ (t, j) ∷ (u, k) ∷ (v, l) ∷ (w, m) ∷ (x, n) ∷ []) y ≡ Ok o →
-    (s ≡ true) × (t ≡ true) × (u ≡ true) × (v ≡ true) × (w ≡ true) × (x ≡ true) × (y ≡ o)
-passed true true true true true true i j k l m n y o e = (refl, refl, refl, refl, refl, refl, cc)
-passed true true true true true false i j k l m n y o e = absurd cc
-passed true true true true false x i j k l m n y o e = absurd cc
-passed true true true false w x i j k l m n y o e = absurd cc
-passed true true false v w x i j k l m n y o e = absurd cc
-passed true false u v w x i j k l m n y o e = absurd cc
-passed false t u v w x i j k l m n y o e = absurd cc
-
 -- the bytes from p on are n of them, and those after
 next_range : (b : List ℕ) (p n : ℕ) → drop p b ≡ range b p n ++ drop (p + n) b
 next_range b p n =
@@ -44,23 +32,20 @@ next_word b p small h = next_range b p 4 ∙ ap (λ (word : List ℕ). word ++ d
 
 -- a word that may be left out
 next_extension : (t : Bool) (b : List ℕ) (p : ℕ) → AreBytes b → p + (if t then 4 else 0) ≤ length b → drop p b ≡ word_bytes (if t then Some (le b p 4) else None) ++ drop (p + (if t then 4 else 0)) b
-next_extension true b p small h = next_word b p small h
-next_extension false b p small h = let none : p + 0 ≡ p = omega arith in rw none refl
+next_extension t b p small h = grind (arith, next_word)
 
 abbrev handler_if : Bool → List ℕ → ℕ → Option Arm64HandlerView
 handler_if t b q = if t then Some (record { rva = le b q 4; bytes = drop (q + 4) b }) else None
 
 next_handler : (t : Bool) (b : List ℕ) (p : ℕ) → AreBytes b → p + (if t then 4 else 0) ≤ length b → drop p b ≡ word_bytes (option_map (λ h. h.rva) (handler_if t b p)) ++ drop (p + (if t then 4 else 0)) b
-next_handler true b p small h = next_word b p small h
-next_handler false b p small h = let none : p + 0 ≡ p = omega arith in rw none refl
+next_handler t b p small h = grind (arith, next_word)
 
 data_after : (t : Bool) (b : List ℕ) (q : ℕ) → IfSome (handler_if t b q) (λ h. h.bytes ≡ drop (q + (if t then 4 else 0)) b)
 data_after true b q = refl
 data_after false b q = tt
 
 there_if : {X : Type 0} (t : Bool) (x : X) → is_some (if t then Some x else None) ≡ t
-there_if true x = refl
-there_if false x = refl
+there_if t x = grind arith
 
 -- the sum of the sizes, from p on
 end : (p x s c h : ℕ) → p + 4 + x + s + c + h ≡ p + (4 + x + s + c + h)
@@ -110,19 +95,7 @@ record Given (b : List ℕ) (p header : ℕ) (extension : Option ℕ) (i : Arm64
   value : info_with b p header extension ≡ i
 
 facts : (b : List ℕ) (p header : ℕ) (extension : Option ℕ) (i : Arm64InfoView) → outcome (info_tests b p header extension) (info_with b p header extension) ≡ Ok i → Given b p header extension i
-facts b p header extension i e =
-    let s : ℕ = 4 * scope_count header extension in
-    let c : ℕ = 4 * code_words header extension in
-    let t = passed (holds b p 4) (bits header 18 2 == 0) (holds b (p + 4) (extension_size header)) (holds b (scopes_offset p header) s) (holds b (codes_offset p header extension) c) (holds b (handler_offset p header extension) (handler_size header)) Short Arm64Version Short Short Short Short (info_with b p header extension) i e in
-    record {
-      first = inside_if_held b p 4 t.0;
-      version = eqb-true _ _ t.1;
-      second = inside_if_held b (p + 4) (extension_size header) t.2;
-      scopes = inside_if_held b (scopes_offset p header) s t.3;
-      codes = inside_if_held b (codes_offset p header extension) c t.4;
-      handler = inside_if_held b (handler_offset p header extension) (handler_size header) t.5;
-      value = t.6;
-    }
+facts b p header extension i e = search (rules, arith, inside_if_held, eqb-true)
 
 -- the record that stands at an offset is the concatenation of its parts
 pub concatenated : (b : List ℕ) (p : ℕ) (i : Arm64InfoView) → AreBytes b → info_at b p ≡ Ok i → AreRecord (drop p b) i (drop (p + record_size i.header i.extension) b)

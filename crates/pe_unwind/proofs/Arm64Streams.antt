@@ -4,7 +4,7 @@ use Rattle.std.proofs.lemmas.Grind.{common_steps}
 use Rattle.std.proofs.lemmas.List.{length-append, length-drop, drop_all, drop-drop}
 use Rattle.std.proofs.lemmas.List.Elements.{All-drop}
 use Rattle.std.specs.Iterator.{Yields}
-use Rattle.pe_core.specs.Refusals.{Refusal, kind_of, answer_of}
+use Rattle.pe_core.specs.Refusals.{Refusal, answer_of}
 use Rattle.pe_core.specs.declared.error.Error.{Error}
 use Rattle.pe_core.specs.declared.error.Error.TheVariants.{Malformed}
 use Rattle.pe_core.specs.declared.error.Reason.TheVariants as reasons
@@ -43,10 +43,7 @@ tiles_from_yields s t u (Err e ∷ xs) y end =
 
 -- at one offset of the bytes is one code
 one_item : (bytes : List ℕ) (at : ℕ) (d e : Arm64UnwindCodeData) → IsItem bytes at (Ok d) → IsItem bytes at (Ok e) → d ≡ e
-one_item bytes at d e h k =
-    let code : d.code ≡ e.code = starts_once (drop at bytes) d.code e.code h.0 k.0 in
-    let len : d.len ≡ e.len = h.2 ∙ ap (λ (c : Arm64UnwindCode). length (encoding c)) code ∙ sym k.2 in
-    same_fields d e (h.1 ∙ sym k.1) code len
+one_item bytes at d e h k = grind (arith, starts_once, same_fields)
 
 -- one list of items tiles the bytes, up to the numbers in a refusal
 pub one_tiling : (bytes : List ℕ) (at : ℕ) (xs ys : List (Result Arm64UnwindCodeData Error)) → Tiles bytes at xs → Tiles bytes at ys → map answer_of xs ≡ map answer_of ys
@@ -54,9 +51,7 @@ one_tiling bytes at [] ys h k = sym (ap (map answer_of) (nothing_left bytes at y
 one_tiling bytes at (x ∷ xs) [] h k = ap (map answer_of) (nothing_left bytes at (x ∷ xs) k h)
 one_tiling bytes at (Ok d ∷ xs) (Err e ∷ ys) h k = absurd (k.1.0 d.code h.1.0)
 one_tiling bytes at (Err e ∷ xs) (Ok d ∷ ys) h k = absurd (h.1.0 d.code k.1.0)
-one_tiling bytes at (Err e ∷ xs) (Err f ∷ ys) h k =
-    ap (λ (r : Refusal). Err r ∷ map answer_of xs) (h.1.1 ∙ sym k.1.1)
-    ∙ ap (λ (zs : List (Result Arm64UnwindCodeData Error)). Err (kind_of f) ∷ map answer_of zs) (h.2 ∙ sym k.2)
+one_tiling bytes at (Err e ∷ xs) (Err f ∷ ys) h k = grind (arith)
 one_tiling bytes at (Ok d ∷ xs) (Ok e ∷ ys) h k =
     let same : d ≡ e = one_item bytes at d e h.1 k.1 in
     let from_e : Tiles bytes (at + e.len) xs = subst (λ (i : Arm64UnwindCodeData). Tiles bytes (at + i.len) xs) same h.2 in
@@ -67,19 +62,14 @@ some_bytes : (c : Arm64UnwindCode) → Legal c → (1 ≤ length (encoding c)) �
 some_bytes c legal = grind (arith, common_steps)
 
 pub starts_some : (bytes : List ℕ) (c : Arm64UnwindCode) → StartsWithArm64Code bytes c → 0 < length bytes
-starts_some bytes c h =
-    let some = some_bytes c h.legal in
-    omega (arith, some.0, ap (λ (x : List ℕ). length x) h.spelled, length-append (encoding c) (drop (length (encoding c)) bytes))
+starts_some bytes c h = grind (arith, some_bytes, length-append)
 
 none_of_no_bytes : StartsWithNoArm64Code []
 none_of_no_bytes c h = absurd (omega (arith, starts_some [] c h))
 
 -- after a code at an offset stand the bytes from the offset of the next on
 code_then_rest : (bytes : List ℕ) (at : ℕ) (item : Arm64UnwindCodeData) → IsItem bytes at (Ok item) → drop at bytes ≡ encoding item.code ++ drop (at + item.len) bytes
-code_then_rest bytes at item h =
-    let after : drop (length (encoding item.code)) (drop at bytes) ≡ drop (at + item.len) bytes =
-    drop-drop (length (encoding item.code)) at bytes ∙ ap (λ (n : ℕ). drop (at + n) bytes) (sym h.2) in
-    h.0.spelled ∙ ap (λ (x : List ℕ). encoding item.code ++ x) after
+code_then_rest bytes at item h = grind (arith, drop-drop)
 
 -- a tiling's codes are the bytes, one after the other, up to a rest
 pub joined : (bytes : List ℕ) (at : ℕ) (xs : List (Result Arm64UnwindCodeData Error)) → Tiles bytes at xs → Joins (drop at bytes) xs

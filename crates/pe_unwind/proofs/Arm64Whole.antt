@@ -1,5 +1,5 @@
 -- Every byte string but the empty one starts with an ARM64 code, or is truncated.
-use Rattle.std.proofs.Common.{◌≡◌, ℕ, suc, ◌+◌, ◌*◌, ◌<◌, ◌⊎◌, inl, inr, List, [], ◌∷◌, ◌++◌, length, get_or, drop, refl, ap, sym, ◌∙◌, subst, arith}
+use Rattle.std.proofs.Common.{◌≡◌, ℕ, suc, ◌+◌, ◌*◌, ◌<◌, ◌⊎◌, inl, inr, List, [], ◌∷◌, ◌++◌, length, get_or, refl, sym, ◌∙◌, subst, arith}
 use Rattle.std.specs.Prelude.{All}
 use Rattle.std.proofs.lemmas.Bool.Decides.{nat_tests}
 use Rattle.pe_unwind.specs.declared.arm64.codes.Arm64UnwindCode.{Arm64UnwindCode}
@@ -8,12 +8,6 @@ use Rattle.std.proofs.Math.Seq.{drop-append_seam}
 use Rattle.pe_unwind.specs.Arm64Encoding.{encoding, Legal, StartsWithArm64Code, IsTruncatedArm64Code}
 use Rattle.pe_unwind.specs.Arm64CodeLengths.{len_at, Encodes}
 use Rattle.pe_unwind.proofs.Arm64OneCode.{one, two, three, four}
-
-one_legal : (b : ℕ) → b < 256 → len_at b 0 ≡ 1 → Legal (one b)
-one_legal b r h = grind (arith, nat_tests)
-
-one_spelled : (b : ℕ) → b < 256 → len_at b 0 ≡ 1 → encoding (one b) ≡ b ∷ []
-one_spelled b r h = grind (arith, nat_tests)
 
 two_legal : (b c : ℕ) → b < 256 → c < 256 → len_at b c ≡ 2 → Legal (two b c)
 two_legal b c r s h = grind (arith, nat_tests)
@@ -40,16 +34,9 @@ five_spelled c d e f r s t u = record { legal = grind (arith, nat_tests); spelle
 len_cases : (b c : ℕ) → (len_at b c ≡ 1) ⊎ ((len_at b c ≡ 2) ⊎ ((len_at b c ≡ 3) ⊎ ((len_at b c ≡ 4) ⊎ ((len_at b c ≡ 5) × (b ≡ 0xFB)))))
 len_cases b c = grind (arith, nat_tests)
 
--- the second byte matters where there are two or more
-len_of_one : (b c : ℕ) → len_at b c ≡ 1 → len_at b 0 ≡ 1
-len_of_one b c h = grind (arith, nat_tests)
-
 -- the bytes of a code, and what follows, start with it
 starts : (bytes rest : List ℕ) (code : Arm64UnwindCode) → Legal code → encoding code ≡ bytes → StartsWithArm64Code (bytes ++ rest) code
-starts bytes rest code legal spelled = record {
-  legal = legal;
-  spelled = subst (λ (x : List ℕ). bytes ++ rest ≡ x ++ drop (length x) (bytes ++ rest)) (sym spelled) (ap (λ (x : List ℕ). bytes ++ x) (sym (drop-append_seam bytes rest)));
-}
+starts bytes rest code legal spelled = grind (arith, drop-append_seam)
 
 cut : (bytes missing : List ℕ) (code : Arm64UnwindCode) → Legal code → 0 < length missing → encoding code ≡ bytes ++ missing → IsTruncatedArm64Code bytes
 cut bytes missing code legal some spelled = record { code = code; missing = missing; legal = legal; some = some; spelled = sym spelled }
@@ -68,7 +55,7 @@ Answer b = ((c : Arm64UnwindCode) × StartsWithArm64Code b c) ⊎ IsTruncatedArm
 
 -- bytes whose first code has one byte, two, three, four or five
 with_one : (b : ℕ) (rest : List ℕ) → b < 256 → len_at b 0 ≡ 1 → Answer (b ∷ rest)
-with_one b rest r h = inl (one b, starts (b ∷ []) rest (one b) (one_legal b r h) (one_spelled b r h))
+with_one b rest r h = inl (one b, starts (b ∷ []) rest (one b) (grind (arith, nat_tests)) (grind (arith, nat_tests)))
 
 with_two : (b : ℕ) (rest : List ℕ) → b < 256 → AreBytes rest → len_at b (get_or rest 0 0) ≡ 2 → Answer (b ∷ rest)
 with_two b [] r all h = inr (cut (b ∷ []) (0 ∷ []) (two b 0) (two_legal b 0 r (omega arith) h) (omega arith) (two_spelled b 0 r (omega arith) h))
@@ -118,7 +105,7 @@ code_or_cut [] some all = absurd (omega (arith, some))
 code_or_cut (b ∷ rest) some h256 =
     let all : AreBytes (b ∷ rest) = bytes_of_all (b ∷ rest) h256 in
     elim (len_cases b (get_or rest 0 0)) [
-      | inl h ↦ with_one b rest all.0 (len_of_one b (get_or rest 0 0) h)
+      | inl h ↦ with_one b rest all.0 (grind (arith, nat_tests))
       | inr h ↦ elim h [
         | inl h ↦ with_two b rest all.0 all.1 h
         | inr h ↦ elim h [

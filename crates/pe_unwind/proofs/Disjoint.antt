@@ -1,5 +1,5 @@
 -- Where entries don't overlap, lookup finds the one that covers an RVA.
-use Rattle.std.proofs.Common.{◌≡◌, ◌↔◌, ℕ, ◌+◌, ◌<◌, ◌≤◌, List, length, get_or, take, Option, Some, None, filter, ap, ◌∙◌, leb, arith, IsSome, is_some}
+use Rattle.std.proofs.Common.{◌≡◌, ◌↔◌, ℕ, ◌+◌, ◌<◌, ◌≤◌, List, length, get_or, take, Option, Some, None, filter, ap, ◌∙◌, leb, arith, IsSome}
 use Rattle.std.specs.List.{last_or, Any}
 use Rattle.std.proofs.lemmas.Bool.{false≢true}
 use Rattle.std.proofs.lemmas.Bool.Decides.{nat_tests}
@@ -22,16 +22,10 @@ scans_to {X} start fs a k f ordered l is from next =
 -- the scan returns the entry that covers the RVA
 scan_covering : (fs : List RuntimeFunction) (a k : ℕ) (f : RuntimeFunction) → NeverFalls fs → NoEndPassesNext fs → k < length fs → get_or fs k f ≡ f → Covers a f → scan fs a ≡ Some f
 unfolding scan
-scan_covering fs a k f ordered apart l is covers =
-    let end : (get_or fs k f).end_address ≡ f.end_address = ap (λ (g : RuntimeFunction). g.end_address) is in
-    before_end-inside a _ f (scans_to (λ (g : RuntimeFunction). g.begin_address) fs a k f ordered l is covers.0 (λ m. omega (arith, apart k f m, end, covers.1))) covers.1
+scan_covering fs a k f ordered apart l is covers = grind (arith, before_end-inside, scans_to)
 
 finds_at : (fs : List RuntimeFunction) (a : ℕ) (found : Option RuntimeFunction) → Finds fs a found → IsSome found → Any (Covers a) fs
-finds_at fs a None finds h = absurd (false≢true h)
-finds_at fs a (Some f) finds h = (finds.entry.0, f, finds.entry.1, finds.entry.2, finds.covers)
+finds_at fs a found finds h = grind (arith, false≢true)
 
 pub finds_covering : (fs : List RuntimeFunction) (a : ℕ) (found : Option RuntimeFunction) → NeverFalls fs → NoEndPassesNext fs → Finds fs a found → IsSome found ↔ Any (Covers a) fs
-finds_covering fs a found ordered apart finds = (
-  finds_at fs a found finds,
-  λ some. ap is_some (finds.scanned ordered ∙ scan_covering fs a some.0 some.1 ordered apart some.2 some.3 some.4),
-)
+finds_covering fs a found ordered apart finds = grind (arith, finds_at, scan_covering)

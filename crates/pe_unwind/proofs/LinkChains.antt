@@ -1,5 +1,5 @@
 -- A chain with more links than entries never ends.
-use Rattle.std.proofs.Common.{◌≡◌, ◌≢◌, ℕ, suc, ◌+◌, ◌-◌, ◌*◌, ◌/◌, ◌%◌, ◌<◌, ◌≤◌, Bool, true, false, List, [], ◌∷◌, cond, eqb, leb, ltb, ◌&&◌, ◌||◌, ◌==◌, Option, Some, None, Result, Ok, Err, ◌↔◌, refl, ap, sym, ◌∙◌, subst, arith, add-one, IsSome, IsSomeAnd, is_some, option_and_then, unwrap_or}
+use Rattle.std.proofs.Common.{◌≡◌, ◌≢◌, ℕ, suc, ◌+◌, ◌-◌, ◌*◌, ◌/◌, ◌%◌, ◌<◌, ◌≤◌, Bool, true, List, [], ◌∷◌, cond, ◌||◌, ◌==◌, Option, Some, None, Result, Ok, Err, ◌↔◌, refl, ap, sym, ◌∙◌, subst, arith, add-one, IsSome, IsSomeAnd, is_some, unwrap_or}
 use Rattle.std.proofs.lemmas.Bool.{false≢true}
 use Rattle.std.proofs.lemmas.Bool.Decides.{nat_tests}
 use Rattle.std.proofs.lemmas.Option.{option_and_then_some, cond_some}
@@ -19,65 +19,43 @@ use Rattle.pe_unwind.specs.Links.{Table, IsOdd, table_count, link_entry_at, link
 
 pub next_ok : (t : Table) (u p : ℕ) → u % 2 ≡ 1 → t.offset (u - 1) ≡ Some p → t.start ≤ p → (p - t.start) % 12 ≡ 0 → (p - t.start) / 12 < table_count t → next t u ≡ Some ((function_at t.entries (p - t.start)).unwind_info_address)
 unfolding next link link_entry_at
-next_ok t u p odd is from whole inside =
-    let test : eqb (u % 2) 1 ≡ true = grind (arith, nat_tests) in
-    let entry : (leb t.start p && eqb ((p - t.start) % 12) 0 && ltb ((p - t.start) / 12) (table_count t)) ≡ true = grind (arith, nat_tests) in
-    let same : 12 * ((p - t.start) / 12) ≡ p - t.start = omega arith in
-    rw test (rw is (rw entry (ap (λ (q : ℕ). Some ((function_at t.entries q).unwind_info_address)) same)))
+next_ok t u p odd is from whole inside = grind (arith, nat_tests)
 
 pub next-unmapped : (t : Table) (u : ℕ) → IsOdd u → t.offset (u - 1) ≡ None → next t u ≡ None
 unfolding next link
-next-unmapped t u odd none =
-    let test : eqb (u % 2) 1 ≡ true = grind (arith, nat_tests) in
-    rw test (rw none refl)
+next-unmapped t u odd none = grind (arith, nat_tests)
 
 pub next-no_entry : (t : Table) (u p : ℕ) → IsOdd u → t.offset (u - 1) ≡ Some p → link_entry_at t p ≡ None → next t u ≡ None
 unfolding next link
-next-no_entry t u p odd is none =
-    let test : eqb (u % 2) 1 ≡ true = grind (arith, nat_tests) in
-    rw test (rw is (rw none refl))
+next-no_entry t u p odd is none = grind (arith, nat_tests)
 
 -- the entry that an address leads to, or 0
 pub key : Table → ℕ → ℕ
 key t u = unwrap_or (link t u) 0
 
-next_some_at : (t : Table) (o : Option ℕ) (a : ℕ) → option_and_then (λ i. Some (address_of t i)) o ≡ Some a → (o ≡ Some (unwrap_or o 0)) × (a ≡ address_of t (unwrap_or o 0))
-next_some_at t None a h = cc
-next_some_at t (Some i) a h = (refl, cc)
-
 next_some : (t : Table) (u a : ℕ) → next t u ≡ Some a → (link t u ≡ Some (key t u)) × (a ≡ address_of t (key t u))
 unfolding next key
-next_some t u a h = next_some_at t (link t u) a h
+next_some t u a h = grind arith
 
 cond_of_some : (b : Bool) (o : Option ℕ) (y : ℕ) → cond b o None ≡ Some y → (b ≡ true) × (o ≡ Some y)
-cond_of_some true o y h = (refl, h)
-cond_of_some false o y h = cc
+cond_of_some b o y h = grind arith
 
 entry_some : (t : Table) (p i : ℕ) → link_entry_at t p ≡ Some i → i < table_count t
 unfolding link_entry_at
-entry_some t p i h =
-    let found = cond_some (leb t.start p && eqb ((p - t.start) % 12) 0 && ltb ((p - t.start) / 12) (table_count t)) ((p - t.start) / 12) i h in
-    let test : (leb t.start p && eqb ((p - t.start) % 12) 0 && ltb ((p - t.start) / 12) (table_count t)) ≡ true = found.0 in
-    let same : (p - t.start) / 12 ≡ i = found.1 in
-    grind (arith, nat_tests)
+entry_some t p i h = grind (arith, cond_some, nat_tests)
 
 link_some : (t : Table) (u i : ℕ) → link t u ≡ Some i → IsOdd u × (i < table_count t)
 unfolding link
-link_some t u i h =
-    let found = cond_of_some (eqb (u % 2) 1) (option_and_then (link_entry_at t) (t.offset (u - 1))) i h in
-    let test : eqb (u % 2) 1 ≡ true = found.0 in
-    (grind (arith, nat_tests), option_and_then_some (link_entry_at t) (t.offset (u - 1)) i found.1 (λ p _ e. entry_some t p i e))
+link_some t u i h = grind (arith, cond_of_some, nat_tests, option_and_then_some, entry_some)
 
 pub follows_key : (t : Table) → FollowsKey (next t) (key t)
-follows_key t x y a b same to_a to_b =
-    (next_some t x a to_a).1 ∙ ap (address_of t) same ∙ sym (next_some t y b to_b).1
+follows_key t = grind (arith, next_some)
 
 pub keys_below : (t : Table) → HasKeysBelow (next t) (key t) (table_count t)
 keys_below t x a to = (link_some t x (key t x) (next_some t x a to).0).1
 
 odd_at : (t : Table) (u : ℕ) (o : Option ℕ) → next t u ≡ o → IsSome o → IsOdd u
-odd_at t u None e h = absurd (false≢true h)
-odd_at t u (Some a) e h = (link_some t u (key t u) (next_some t u a e).0).0
+odd_at t u o e h = grind (arith, false≢true, link_some, key, next_some)
 
 endless_at : (t : Table) (u k : ℕ) (o : Option ℕ) → after (next t) k u ≡ o → IsSome o → NeverStops (next t) u → IsSomeAnd o IsOdd
 endless_at t u k None e h never = absurd (false≢true h)
@@ -159,12 +137,7 @@ refused_as : {Y : Type 0} (j k : Refusal) → IsRecordRefusal j → Path (Result
 refused_as j k is h = let same : j ≡ k = cc in subst IsRecordRefusal same is
 
 five_tests : {Y : Type 0} (a b c d e : Bool) (y : Y) (k : Refusal) → outcome ((a, Short) ∷ (b, UnwindVersion) ∷ (c, Short) ∷ (d, Short) ∷ (e, Short) ∷ []) y ≡ Err k → IsRecordRefusal k
-five_tests true true true true true y k h = cc
-five_tests true true true true false y k h = refused_as Short k tt h
-five_tests true true true false e y k h = refused_as Short k tt h
-five_tests true true false d e y k h = refused_as Short k tt h
-five_tests true false c d e y k h = refused_as UnwindVersion k tt h
-five_tests false b c d e y k h = refused_as Short k tt h
+five_tests a b c d e y k h = grind (arith, refused_as)
 
 record_refusal : (b : List ℕ) (o : Option ℕ) (k : Refusal) → record_at_offset b o ≡ Err k → IsRecordRefusal k
 unfolding unwind_tests
@@ -204,12 +177,7 @@ cycle_found t b (Some f) (Err k) w = (
 )
 
 pub unwinds_at_code : (v : ExceptionView) (sections : List SectionTable) (opts : ParseOptions) (a : ℕ) (found : Option RuntimeFunction) (answer : Result (Option UnwindInfoView) Refusal) → Finds (functions (table_of v)) a found → UnwindsFound (links_of v sections opts) v.content found answer → UnwindsAt v sections opts a answer
-unwinds_at_code v sections opts a found answer finds unwinds = record {
-  found = found;
-  finds = finds;
-  unwinds = unwinds;
-  cycle = cycle_found (links_of v sections opts) v.content found answer unwinds;
-}
+unwinds_at_code v sections opts a found answer finds unwinds = grind (arith, cycle_found)
 
 -- RVAs where no entry stands
 pub no_entry-before : (t : Table) (p : ℕ) → p < t.start → link_entry_at t p ≡ None

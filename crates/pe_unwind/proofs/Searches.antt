@@ -1,5 +1,5 @@
 -- What the search by halves keeps, and what it finds.
-use Rattle.std.proofs.Common.{◌≡◌, ℕ, zero, suc, ◌+◌, ◌*◌, ◌/◌, ◌<◌, ◌≤◌, Bool, true, false, List, [], ◌∷◌, ◌++◌, length, get_or, take, drop, Option, Some, None, filter, refl, ap, sym, ◌∙◌, subst, ⊎_elim, ◌^◌, leb, arith, IfSome, Contains}
+use Rattle.std.proofs.Common.{◌≡◌, ℕ, zero, suc, ◌+◌, ◌*◌, ◌/◌, ◌<◌, ◌≤◌, Bool, true, false, List, [], ◌∷◌, ◌++◌, length, get_or, take, drop, Option, Some, None, filter, refl, ap, sym, ◌∙◌, subst, ◌^◌, leb, arith, IfSome, Contains}
 use Rattle.std.specs.List.{last_or}
 use Rattle.std.specs.Int.Digits.{digits_of}
 use Rattle.std.proofs.lemmas.Int.Digits.{length-digits_of_step, length-digits_of-le, number_lt, number_digits_of, all_below_base_digits_of}
@@ -35,11 +35,6 @@ last_or-append o (y ∷ xs) x = last_or-append (Some y) xs x
 
 -- ---- the count of reads
 
--- halving takes a digit
-digits-half : (n : ℕ) → 0 < n → digits n ≡ digits (n / 2) + 1
-unfolding digits
-digits-half n h = length-digits_of_step 2 n (omega arith) h
-
 lt-digits : (n : ℕ) → n < 2 ^ digits n
 unfolding digits
 lt-digits n = omega (arith, number_lt 2 (digits_of 2 n) (all_below_base_digits_of 2 n (omega arith)), number_digits_of 2 n (omega arith))
@@ -50,7 +45,8 @@ digits-le m n h = length-digits_of-le 2 (digits n) m (omega arith) (omega (arith
 
 -- what is left after a halving has one digit less
 pub digits-halved : (n k : ℕ) → 0 < n → k ≤ n / 2 → digits k + 1 ≤ digits n
-digits-halved n k h l = omega (arith, digits-half n h, digits-le k (n / 2) l)
+unfolding digits
+digits-halved n k h l = omega (arith, length-digits_of_step 2 n (omega arith) h, digits-le k (n / 2) l)
 
 pub le-one_more : (n : ℕ) → n ≤ one_more n
 le-one_more n = grind (arith, nat_tests)
@@ -74,23 +70,10 @@ pub record SearchesAt {X : Type 0} (start : X → ℕ) (fs : List X) (a low high
 
 -- sorted, also of one entry
 pub start-le : {X : Type 0} (start : X → ℕ) (fs : List X) → IsSortedBy start fs → (i j : ℕ) (d : X) → i ≤ j → j < length fs → start (get_or fs i d) ≤ start (get_or fs j d)
-start-le start fs ordered i j d h l =
-    ⊎_elim
-    (λ (lt : i < j). ordered i j d lt l)
-    (λ (ge : j ≤ i). let same : i ≡ j = omega arith in rw same (omega arith))
-    (cases_lt i j)
+start-le start fs ordered i j d h l = grind (arith, cases_lt)
 
 pub starts : {X : Type 0} (start : X → ℕ) (fs : List X) (a high : ℕ) → high ≡ length fs → SearchesAt start fs a 0 high None
-starts start fs a high all = record {
-  ordered = omega arith;
-  within = omega arith;
-  last = refl;
-  starts_before = tt;
-  member = tt;
-  next = λ d h. absurd (omega arith);
-  below = λ o k d h l. absurd (omega arith);
-  above = λ o k d h l. absurd (omega arith);
-}
+starts start fs a high all = grind arith
 
 -- the middle starts at or before the RVA
 pub goes_up : {X : Type 0} (start : X → ℕ) (fs : List X) (a low high : ℕ) (found : Option X) (m : ℕ) (f : X) → SearchesAt start fs a low high found → low ≤ m → m < high → ((d : X) → get_or fs m d ≡ f) → start f ≤ a → SearchesAt start fs a (m + 1) high (Some f)
@@ -109,16 +92,7 @@ goes_up {X} start fs a low high found m f s from to is passes =
 
 -- the middle starts after the RVA
 pub goes_down : {X : Type 0} (start : X → ℕ) (fs : List X) (a low high : ℕ) (found : Option X) (m : ℕ) (f : X) → SearchesAt start fs a low high found → low ≤ m → m < high → ((d : X) → get_or fs m d ≡ f) → a < start f → SearchesAt start fs a low m found
-goes_down start fs a low high found m f s from to is after = record {
-  ordered = from;
-  within = omega (arith, s.within);
-  last = s.last;
-  starts_before = s.starts_before;
-  member = s.member;
-  next = λ d h. omega (arith, after, ap start (is d));
-  below = s.below;
-  above = λ o k d h l. omega (arith, after, ap start (is d), start-le start fs o m k d h l);
-}
+goes_down start fs a low high found m f s from to is after = grind (arith, start-le)
 
 -- a list without its first i entries starts with its entry i
 starts_after : {X : Type 0} (start : X → ℕ) (a : ℕ) (fs : List X) (i : ℕ) → ((d : X) → i < length fs → a < start (get_or fs i d)) → StartsAfter start a (drop i fs)
@@ -129,10 +103,7 @@ starts_after start a (f ∷ fs) (suc i) h = starts_after start a fs i (λ d l. h
 
 -- the entries that start at or before the RVA are those before `low`
 kept : {X : Type 0} (start : X → ℕ) (fs : List X) (a low high : ℕ) (found : Option X) → SearchesAt start fs a low high found → high ≤ low → IsSortedBy start fs → filter (λ f. leb (start f) a) fs ≡ take low fs
-kept start fs a low high found s over o =
-    filter_first (λ f. leb (start f) a) fs low
-    (λ k d h l. let below : start (get_or fs k d) ≤ a = s.below o k d h l in grind (arith, nat_tests))
-    (λ k d h l. let above : a < start (get_or fs k d) = s.above o k d (omega (arith, s.ordered)) l in grind (arith, nat_tests))
+kept start fs a low high found s over o = grind (arith, filter_first, nat_tests)
 
 -- where the search ends, it stands between two entries
 pub ends : {X : Type 0} (start : X → ℕ) (fs : List X) (a low high : ℕ) (found : Option X) → SearchesAt start fs a low high found → high ≤ low → FindsStart start fs a found
@@ -152,22 +123,16 @@ ends {X} start fs a low high found s over =
 
 -- the entry that was read is that of the table
 pub entry_is : {X : Type 0} (entry_at : List ℕ → ℕ → X) (w : ℕ) (b c : List ℕ) (m : ℕ) (f : X) → c ≡ b → f ≡ entry_at c (w * m) → m < length (whole_entries entry_at w b) → (d : X) → get_or (whole_entries entry_at w b) m d ≡ f
-entry_is entry_at w b c m f same is h d =
-    get_or-whole_entries entry_at w b m d (omega (arith, count_of_whole_entries entry_at w b)) ∙ sym (is ∙ ap (λ (x : List ℕ). entry_at x (w * m)) same)
+entry_is entry_at w b c m f same is h d = grind (arith, get_or-whole_entries, count_of_whole_entries)
 
 -- a whole entry ends in the table
 pub entry_ends : (n w m : ℕ) → m < n / w → w * m + w ≤ n
-entry_ends n w m h =
-    let more : w * (m + 1) ≤ w * (n / w) = mul-le-mul_left w (omega arith) in
-    omega (arith, more, mul-div-le n w, mul-add w m 1, mul-one w)
+entry_ends n w m h = grind (arith, mul-le-mul_left, mul-div-le, mul-add, mul-one)
 
 -- ---- x64: the end of the entry decides
 
 pub before_end-inside : (a : ℕ) (o : Option RuntimeFunction) (f : RuntimeFunction) → o ≡ Some f → a < f.end_address → if_before_end a o ≡ Some f
 before_end-inside a o f is h = rw is (grind (arith, nat_tests))
-
-before_end-past : (a : ℕ) (o : Option RuntimeFunction) (f : RuntimeFunction) → o ≡ Some f → f.end_address ≤ a → if_before_end a o ≡ None
-before_end-past a o f is h = rw is (grind (arith, nat_tests))
 
 -- the entry to which the search comes, if the RVA is before its end
 decided : (fs : List RuntimeFunction) (a : ℕ) (last found : Option RuntimeFunction) → FindsStart (λ f. f.begin_address) fs a last → found ≡ if_before_end a last → StopsBetween fs a found × (IsSortedBy (λ f. f.begin_address) fs → found ≡ scan fs a)
@@ -183,7 +148,7 @@ finds_none b a last finds is =
 pub finds_past : (b : List ℕ) (a : ℕ) (last : Option RuntimeFunction) (f : RuntimeFunction) → FindsStart (λ f. f.begin_address) (whole_entries function_at 12 b) a last → last ≡ Some f → f.end_address ≤ a → Finds (functions b) a None
 unfolding functions
 finds_past b a last f finds is h =
-    let both = decided (functions b) a last None finds (sym (before_end-past a last f is h)) in
+    let both = decided (functions b) a last None finds (sym (rw is (grind (arith, nat_tests)))) in
     record { entry = tt; covers = tt; stops = both.0; scanned = both.1 }
 
 pub finds_inside : (b : List ℕ) (a : ℕ) (last : Option RuntimeFunction) (f : RuntimeFunction) → FindsStart (λ f. f.begin_address) (whole_entries function_at 12 b) a last → last ≡ Some f → a < f.end_address → Finds (functions b) a (Some f)

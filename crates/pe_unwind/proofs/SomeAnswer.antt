@@ -1,5 +1,5 @@
 -- A chain of links has an answer, and so has the record at its end.
-use Rattle.std.proofs.Common.{◌≡◌, ◌≢◌, ℕ, suc, ◌-◌, ◌%◌, ◌<◌, true, eqb, List, Option, Some, None, Result, Ok, Err, IsSome, ⊎_elim, refl, arith}
+use Rattle.std.proofs.Common.{◌≡◌, ◌≢◌, ℕ, suc, ◌-◌, ◌%◌, ◌<◌, List, Option, Some, None, Result, Ok, Err, IsSome, ⊎_elim, refl, arith}
 use Rattle.std.proofs.lemmas.Bool.{cases_eq}
 use Rattle.std.proofs.lemmas.Bool.Decides.{nat_tests}
 use Rattle.pe_core.proofs.Pigeonhole.{StopsAfter, goes_or_stops, last_state, never_stops}
@@ -12,9 +12,7 @@ use Rattle.pe_unwind.proofs.LinkChains.{endless-from_never_stops, follows_key, k
 
 next-entry : (t : Table) (u p i : ℕ) → IsOdd u → t.offset (u - 1) ≡ Some p → link_entry_at t p ≡ Some i → next t u ≡ Some (address_of t i)
 unfolding next link
-next-entry t u p i odd is found =
-    let test : eqb (u % 2) 1 ≡ true = grind (arith, nat_tests) in
-    rw test (rw is (rw found refl))
+next-entry t u p i odd is found = grind (arith, nat_tests)
 
 abbrev Answered : Table → ℕ → Type 0
 Answered t u = (r : Result ℕ Refusal) × Follows t u r

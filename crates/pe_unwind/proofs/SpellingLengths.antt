@@ -1,5 +1,5 @@
 -- How many bytes a spelling has.
-use Rattle.std.proofs.Common.{◌≡◌, ℕ, zero, suc, ◌+◌, ◌-◌, ◌*◌, ◌/◌, ◌%◌, ◌<◌, ◌≤◌, ◌==◌, ◌⊎◌, inl, inr, List, [], ◌∷◌, ◌++◌, length, length-append, get_or, take, Some, None, refl, sym, ◌∙◌, arith}
+use Rattle.std.proofs.Common.{◌≡◌, ℕ, zero, suc, ◌+◌, ◌-◌, ◌*◌, ◌/◌, ◌%◌, ◌<◌, ◌≤◌, ◌==◌, ◌⊎◌, inl, inr, List, [], ◌∷◌, ◌++◌, length, length-append, get_or, Some, None, refl, arith}
 use Rattle.std.proofs.lemmas.Bool.Decides.{nat_tests}
 use Rattle.std.proofs.lemmas.List.{length-take-le}
 use Rattle.pe_unwind.specs.declared.unwind_code.UnwindOperation.{UnwindOperation}
@@ -9,25 +9,16 @@ use Rattle.pe_unwind.specs.declared.unwind_code.UnwindOperation.TheVariants.{Pus
 use Rattle.pe_unwind.specs.UnwindCodes.{SpellsOperation, StartsWithCode, IsTruncatedCode, integer, xmm, offset}
 use Rattle.pe_unwind.specs.CodeSlots.{slots_at}
 
-one_slot : (v f code_offset op info : ℕ) (o : UnwindOperation) → SpellsOperation v f code_offset op info [] o → slots_at v op info ≡ Some 1
-one_slot v f code_offset op info o h = grind (arith, nat_tests)
-
-two_slots : (v f code_offset op info a b : ℕ) (o : UnwindOperation) → SpellsOperation v f code_offset op info (a ∷ b ∷ []) o → slots_at v op info ≡ Some 2
-two_slots v f code_offset op info a b o h = grind (arith, nat_tests)
-
-three_slots : (v f code_offset op info a b c d : ℕ) (o : UnwindOperation) → SpellsOperation v f code_offset op info (a ∷ b ∷ c ∷ d ∷ []) o → slots_at v op info ≡ Some 3
-three_slots v f code_offset op info a b c d o h = grind (arith, nat_tests)
-
 -- a line of the table has so many slots
 abbrev pub HasSlots : ℕ → ℕ → ℕ → ℕ → Type 0
 HasSlots v op info n = (k : ℕ) × (slots_at v op info ≡ Some k) × (n ≡ 2 * k)
 
 spelled_len : (v f code_offset op info : ℕ) (more : List ℕ) (o : UnwindOperation) → SpellsOperation v f code_offset op info more o → HasSlots v op info (2 + length more)
-spelled_len v f code_offset op info [] o h = (1, one_slot v f code_offset op info o h, omega arith)
+spelled_len v f code_offset op info [] o h = (1, grind (arith, nat_tests), omega arith)
 spelled_len v f code_offset op info (a ∷ []) o h = absurd h
-spelled_len v f code_offset op info (a ∷ b ∷ []) o h = (2, two_slots v f code_offset op info a b o h, omega arith)
+spelled_len v f code_offset op info (a ∷ b ∷ []) o h = (2, grind (arith, nat_tests), omega arith)
 spelled_len v f code_offset op info (a ∷ b ∷ c ∷ []) o h = absurd h
-spelled_len v f code_offset op info (a ∷ b ∷ c ∷ d ∷ []) o h = (3, three_slots v f code_offset op info a b c d o h, omega arith)
+spelled_len v f code_offset op info (a ∷ b ∷ c ∷ d ∷ []) o h = (3, grind (arith, nat_tests), omega arith)
 spelled_len v f code_offset op info (a ∷ b ∷ c ∷ d ∷ e ∷ more) o h = absurd h
 
 -- a spelling at the front has the slots that its second byte says
@@ -39,22 +30,15 @@ starts_slots v f (a ∷ []) code (suc zero) h = absurd h.1
 starts_slots v f (a ∷ []) code (suc (suc n)) h = absurd h.1
 starts_slots v f (a ∷ b ∷ more) code zero h = absurd h.1
 starts_slots v f (a ∷ b ∷ more) code (suc zero) h = absurd h.1
-starts_slots v f (a ∷ b ∷ more) code (suc (suc n)) h =
-    let found = spelled_len v f a (b % 16) (b / 16) (take n more) code.operation h.1.1 in
-    (found.0, found.1, omega (arith, found.2, h.0, length-take-le n more (omega (arith, h.0))))
+starts_slots v f (a ∷ b ∷ more) code (suc (suc n)) h = grind (arith, spelled_len, length-take-le)
 
 -- no line of the table
 pub none-no_slots : (v f : ℕ) (bytes : List ℕ) (code : UnwindCode) (n : ℕ) → slots_at v (get_or bytes 1 0 % 16) (get_or bytes 1 0 / 16) ≡ None → StartsWithCode v f bytes code n → ⊥
-none-no_slots v f bytes code n none h =
-    let found = starts_slots v f bytes code n h in
-    let is : slots_at v (get_or bytes 1 0 % 16) (get_or bytes 1 0 / 16) ≡ Some found.0 = found.1 in cc
+none-no_slots v f bytes code n none h = grind (arith, starts_slots)
 
 -- too few slots
 pub none-cut : (v f : ℕ) (bytes : List ℕ) (code : UnwindCode) (n k : ℕ) → slots_at v (get_or bytes 1 0 % 16) (get_or bytes 1 0 / 16) ≡ Some k → length bytes < 2 * k → StartsWithCode v f bytes code n → ⊥
-none-cut v f bytes code n k is cut h =
-    let found = starts_slots v f bytes code n h in
-    let same : k ≡ found.0 = let e : Some k ≡ Some found.0 = sym is ∙ found.1 in cc in
-    omega (arith, found.2, h.0)
+none-cut v f bytes code n k is cut h = grind (arith, starts_slots)
 
 -- which lines have so many slots
 HasOneSlot : ℕ → ℕ → ℕ → Type 0
@@ -65,10 +49,6 @@ HasTwoSlots v op info = ((op ≡ 1) × (info ≡ 0)) ⊎ ((op ≡ 4) ⊎ (((op �
 
 HasThreeSlots : ℕ → ℕ → ℕ → Type 0
 HasThreeSlots v op info = ((op ≡ 1) × (info ≡ 1)) ⊎ ((op ≡ 5) ⊎ (((op ≡ 7) × (v ≡ 1)) ⊎ (((op ≡ 7) × (v ≡ 2)) ⊎ (op ≡ 9))))
-
-lines_of_one : (v op info : ℕ) → slots_at v op info ≡ Some 1 → HasOneSlot v op info
-unfolding HasOneSlot
-lines_of_one v op info h = grind (arith, nat_tests)
 
 lines_of_two : (v op info : ℕ) → slots_at v op info ≡ Some 2 → HasTwoSlots v op info
 unfolding HasTwoSlots
@@ -110,9 +90,10 @@ three_spelled v f code_offset op info a b c d (inr (inr (inr (inr h)))) = (SaveX
 
 -- operands of the right length spell some operation
 pub all_spelled : (v f code_offset op info k : ℕ) (more : List ℕ) → slots_at v op info ≡ Some k → 2 + length more ≡ 2 * k → Spelled v f code_offset op info more
+unfolding HasOneSlot
 all_spelled v f code_offset op info k [] is n =
     let one : k ≡ 1 = omega arith in
-    one_spelled v f code_offset op info (lines_of_one v op info (rw one at is))
+    one_spelled v f code_offset op info (grind (arith, nat_tests))
 all_spelled v f code_offset op info k (a ∷ []) is n = absurd (omega arith)
 all_spelled v f code_offset op info k (a ∷ b ∷ []) is n =
     let two : k ≡ 2 = omega arith in
@@ -172,9 +153,7 @@ cut_slots v f (a ∷ b ∷ more) k some is less =
 pub no_slots-not_cut : (v f : ℕ) (bytes : List ℕ) → 2 ≤ length bytes → slots_at v (get_or bytes 1 0 % 16) (get_or bytes 1 0 / 16) ≡ None → IsTruncatedCode v f bytes → ⊥
 no_slots-not_cut v f [] some none cut = omega arith
 no_slots-not_cut v f (a ∷ []) some none cut = omega arith
-no_slots-not_cut v f (a ∷ b ∷ more) some none cut =
-    let found = spelled_len v f a (b % 16) (b / 16) (more ++ cut.missing) cut.code.operation cut.spelled.1 in
-    let is : slots_at v (b % 16) (b / 16) ≡ Some found.0 = found.1 in cc
+no_slots-not_cut v f (a ∷ b ∷ more) some none cut = grind (arith, spelled_len)
 
 -- the reader's numbers, by their bytes
 pub word_at_2 : (b : List ℕ) → le b 2 2 ≡ get_or b 2 0 + 256 * get_or b 3 0
@@ -187,22 +166,10 @@ long_at_2 b = omega arith
 
 -- the bytes at the front spell the code
 pub starts_2 : (v f : ℕ) (b : List ℕ) (o : UnwindOperation) → 2 ≤ length b → SpellsOperation v f (get_or b 0 0) (get_or b 1 0 % 16) (get_or b 1 0 / 16) [] o → StartsWithCode v f b (record { code_offset = get_or b 0 0; operation = o }) 2
-starts_2 v f [] o l h = absurd (omega arith)
-starts_2 v f (a ∷ []) o l h = absurd (omega arith)
-starts_2 v f (a ∷ b ∷ more) o l h = (l, (refl, h))
+starts_2 v f b o l h = grind arith
 
 pub starts_4 : (v f : ℕ) (b : List ℕ) (o : UnwindOperation) → 4 ≤ length b → SpellsOperation v f (get_or b 0 0) (get_or b 1 0 % 16) (get_or b 1 0 / 16) (get_or b 2 0 ∷ get_or b 3 0 ∷ []) o → StartsWithCode v f b (record { code_offset = get_or b 0 0; operation = o }) 4
-starts_4 v f [] o l h = absurd (omega arith)
-starts_4 v f (a ∷ []) o l h = absurd (omega arith)
-starts_4 v f (a ∷ b ∷ []) o l h = absurd (omega arith)
-starts_4 v f (a ∷ b ∷ c ∷ []) o l h = absurd (omega arith)
-starts_4 v f (a ∷ b ∷ c ∷ d ∷ more) o l h = (l, (refl, h))
+starts_4 v f b o l h = grind arith
 
 pub starts_6 : (v f : ℕ) (b : List ℕ) (o : UnwindOperation) → 6 ≤ length b → SpellsOperation v f (get_or b 0 0) (get_or b 1 0 % 16) (get_or b 1 0 / 16) (get_or b 2 0 ∷ get_or b 3 0 ∷ get_or b 4 0 ∷ get_or b 5 0 ∷ []) o → StartsWithCode v f b (record { code_offset = get_or b 0 0; operation = o }) 6
-starts_6 v f [] o l h = absurd (omega arith)
-starts_6 v f (a ∷ []) o l h = absurd (omega arith)
-starts_6 v f (a ∷ b ∷ []) o l h = absurd (omega arith)
-starts_6 v f (a ∷ b ∷ c ∷ []) o l h = absurd (omega arith)
-starts_6 v f (a ∷ b ∷ c ∷ d ∷ []) o l h = absurd (omega arith)
-starts_6 v f (a ∷ b ∷ c ∷ d ∷ e ∷ []) o l h = absurd (omega arith)
-starts_6 v f (a ∷ b ∷ c ∷ d ∷ e ∷ g ∷ more) o l h = (l, (refl, h))
+starts_6 v f b o l h = grind arith

@@ -4,7 +4,7 @@ use Rattle.std.specs.Prelude.{nat_lt}
 use Rattle.std.specs.Iterator.{Yields}
 use Rattle.std.proofs.lemmas.Bool.Decides.{nat_tests}
 use Rattle.std.proofs.lemmas.List.{length-drop, length-take-le}
-use Rattle.pe_core.specs.Refusals.{Refusal, Short, UnwindCode as BadCode, kind_of, answer_of}
+use Rattle.pe_core.specs.Refusals.{Refusal, kind_of, answer_of}
 use Rattle.pe_core.specs.declared.error.Error.{Error}
 use Rattle.pe_core.specs.declared.error.Error.TheVariants.{Malformed, Short as TooShort}
 use Rattle.pe_core.specs.declared.error.Reason.TheVariants as reasons
@@ -13,16 +13,14 @@ use Rattle.pe_unwind.specs.declared.unwind_code.UnwindCodeIterator.{UnwindCodeIt
 use Rattle.pe_unwind.specs.declared.unwind_code.UnwindOperation.{UnwindOperation}
 use Rattle.pe_unwind.specs.CodeStream.{CodeStream, AreItems, ReturnsCode, stream_of, with_left}
 use Rattle.pe_unwind.specs.CodeSlots.{slots_at}
-use Rattle.pe_unwind.specs.UnwindCodes.{SpellsOperation, Spells, StartsWithCode, StartsWithNoCode, IsCodeRefusal}
+use Rattle.pe_unwind.specs.UnwindCodes.{SpellsOperation, StartsWithCode, StartsWithNoCode, IsCodeRefusal}
 use Rattle.pe_unwind.proofs.SpellingLengths.{all_spelled, starts_slots, cut_one, cut_slots, no_slots-not_cut, none-cut, none-no_slots}
 
 abbrev pub Next : UnwindCodeIterator → Option (Result UnwindCode Error) → UnwindCodeIterator → Type 0
 Next s r t = ReturnsCode (stream_of s) r (stream_of t)
 
 pub starts_some : (v f : ℕ) (b : List ℕ) (code : UnwindCode) (n : ℕ) → StartsWithCode v f b code n → 0 < length b
-starts_some v f [] code zero h = absurd h.1
-starts_some v f [] code (suc n) h = absurd h.1
-starts_some v f (x ∷ b) code n h = omega arith
+starts_some v f b code n h = grind arith
 
 nothing_left : (s : CodeStream) (xs : List (Result UnwindCode Error)) → s.content ≡ [] → AreItems s xs → xs ≡ []
 nothing_left s [] e h = refl
@@ -49,41 +47,12 @@ one_operation v f offset op info (a ∷ b ∷ c ∷ []) o r h k = absurd h
 one_operation v f offset op info (a ∷ b ∷ c ∷ d ∷ []) o r h k = grind arith
 one_operation v f offset op info (a ∷ b ∷ c ∷ d ∷ e ∷ more) o r h k = absurd h
 
-one_spelled : (v f : ℕ) (x : List ℕ) (c d : UnwindCode) → Spells v f x c → Spells v f x d → c ≡ d
-one_spelled v f [] c d h k = absurd h
-one_spelled v f (a ∷ []) c d h k = absurd h
-one_spelled v f (a ∷ b ∷ more) c d h k =
-    let offset : c.code_offset ≡ d.code_offset = h.0 ∙ sym k.0 in
-    let same : c.operation ≡ d.operation = one_operation v f a (b % 16) (b / 16) more c.operation d.operation h.1 k.1 in
-    ap (λ (p : ℕ). record { code_offset = p; operation = c.operation }) offset ∙ ap (λ (o : UnwindOperation). record { code_offset = d.code_offset; operation = o }) same
-
-same_length : (v f : ℕ) (b : List ℕ) (c d : UnwindCode) (m n : ℕ) → StartsWithCode v f b c m → StartsWithCode v f b d n → m ≡ n
-same_length v f b c d m n h k =
-    let x = starts_slots v f b c m h in
-    let y = starts_slots v f b d n k in
-    let same : x.0 ≡ y.0 = let e : Some x.0 ≡ Some y.0 = sym x.1 ∙ y.1 in cc in
-    omega (arith, x.2, y.2, same)
-
 -- bytes start with one code at most
 pub one_code : (v f : ℕ) (b : List ℕ) (c d : UnwindCode) (m n : ℕ) → StartsWithCode v f b c m → StartsWithCode v f b d n → (c ≡ d) × (m ≡ n)
-one_code v f b c d m n h k =
-    let same : m ≡ n = same_length v f b c d m n h k in
-    (one_spelled v f (take n b) c d (subst (λ (i : ℕ). Spells v f (take i b) c) same h.1) k.1, same)
-
-one_refusal_bad : (v f : ℕ) (b : List ℕ) (j : Refusal) → IsCodeRefusal v f b BadCode → IsCodeRefusal v f b j → BadCode ≡ j
-one_refusal_bad v f b Short h k = absurd (h k)
-one_refusal_bad v f b BadCode h k = refl
-one_refusal_bad v f b other h k = absurd k
-
-one_refusal_short : (v f : ℕ) (b : List ℕ) (j : Refusal) → IsCodeRefusal v f b Short → IsCodeRefusal v f b j → Short ≡ j
-one_refusal_short v f b Short h k = refl
-one_refusal_short v f b BadCode h k = absurd (k h)
-one_refusal_short v f b other h k = absurd k
+one_code v f b c d m n h k = grind (arith, starts_slots, one_operation)
 
 one_refusal : (v f : ℕ) (b : List ℕ) (i j : Refusal) → IsCodeRefusal v f b i → IsCodeRefusal v f b j → i ≡ j
-one_refusal v f b Short j h k = one_refusal_short v f b j h k
-one_refusal v f b BadCode j h k = one_refusal_bad v f b j h k
-one_refusal v f b other j h k = absurd h
+one_refusal v f b i j h k = grind arith
 
 -- a stream has one list of items, up to the numbers in its refusal
 pub one_reading : (s : CodeStream) (xs ys : List (Result UnwindCode Error)) → AreItems s xs → AreItems s ys → map answer_of xs ≡ map answer_of ys
@@ -97,9 +66,7 @@ one_reading s (Ok c ∷ xs) (Ok d ∷ ys) h k =
     ∙ ap (λ (zs : List (Result UnwindCode Refusal)). Ok d ∷ zs) (one_reading (with_left s (drop k.0 s.content)) xs ys rest k.2)
 one_reading s (Err e ∷ xs) [] h k = absurd (omega (arith, h.0, ap (λ (b : List ℕ). length b) k))
 one_reading s (Err e ∷ xs) (Ok d ∷ ys) h k = absurd (h.1 d k.0 k.1)
-one_reading s (Err e ∷ xs) (Err x ∷ ys) h k =
-    ap (λ (r : Refusal). Err r ∷ map answer_of xs) (one_refusal s.version s.frame s.content (kind_of e) (kind_of x) h.2 k.2)
-    ∙ ap (λ (zs : List (Result UnwindCode Error)). Err (kind_of x) ∷ map answer_of zs) (h.3 ∙ sym k.3)
+one_reading s (Err e ∷ xs) (Err x ∷ ys) h k = grind (arith, one_refusal)
 
 -- ---- a stream has a list of items
 
@@ -109,12 +76,7 @@ FirstItem v f b =
     ((code : UnwindCode) × (n : ℕ) × StartsWithCode v f b code n × (0 < n)) ⊎ (StartsWithNoCode v f b × (e : Error) × IsCodeRefusal v f b (kind_of e))
 
 none_in_one : (v f a : ℕ) (code : UnwindCode) (n : ℕ) → StartsWithCode v f (a ∷ []) code n → ⊥
-none_in_one v f a code zero h = h.1
-none_in_one v f a code (suc zero) h = h.1
-none_in_one v f a code (suc (suc n)) h = omega (arith, h.0)
-
-one_at_least : (v op info k : ℕ) → slots_at v op info ≡ Some k → 1 ≤ k
-one_at_least v op info k h = grind (arith, nat_tests)
+none_in_one v f a code n h = grind arith
 
 by_room : (v f a b : ℕ) (more : List ℕ) (k : ℕ) (short : Bool) → slots_at v (b % 16) (b / 16) ≡ Some k → nat_lt (2 + length more) (2 * k) ≡ short → FirstItem v f (a ∷ b ∷ more)
 by_room v f a b more k true is e =
@@ -122,7 +84,7 @@ by_room v f a b more k true is e =
     inr (λ code n h. none-cut v f (a ∷ b ∷ more) code n k is (omega (arith, less)) h, TooShort 0 0, cut_slots v f (a ∷ b ∷ more) k (omega arith) is (omega (arith, less)))
 by_room v f a b more k false is e =
     let enough : 2 * k ≤ 2 + length more = grind (arith, nat_tests) in
-    let some : 1 ≤ k = one_at_least v (b % 16) (b / 16) k is in
+    let some : 1 ≤ k = grind (arith, nat_tests) in
     let m : ℕ = 2 * k - 2 in
     let size : length (take m more) ≡ m = length-take-le m more (omega (arith, enough)) in
     let spelled = all_spelled v f a (b % 16) (b / 16) k (take m more) is (omega (arith, size, some)) in
