@@ -1,17 +1,13 @@
 -- Lists of blocks, and where words stand that are scattered over blocks.
-use Rattle.std.proofs.Common.{◌≡◌, ℕ, zero, suc, ◌+◌, ◌-◌, ◌*◌, ◌/◌, ◌%◌, ◌<◌, ◌≤◌, ◌&&◌, Bool, true, false, nat_lt, refl, ap, subst, sym, ◌∙◌, arith, below_more, Result, Ok, List, [], ◌∷◌, length}
-use Rattle.std.specs.Prelude.{◌==◌, nat_le, not}
+use Rattle.std.proofs.Common.{◌≡◌, ℕ, zero, suc, ◌+◌, ◌-◌, ◌*◌, ◌/◌, ◌%◌, ◌<◌, ◌≤◌, ◌&&◌, Bool, true, false, nat_lt, refl, ap, subst, sym, ◌∙◌, arith, below_more, Result, Ok, List, ◌∷◌, length}
 use Rattle.std.proofs.lemmas.Bool.Decides.{nat_tests}
 use Rattle.std.proofs.lemmas.Nat.{mod_below}
 use Rattle.std.proofs.Math.Nat.{mul_comm, mul-le-mul_right, div-lt_iff_lt-mul, div-le_self}
 use Rattle.std.specs.Int.{div_ceil}
 use Rattle.std.proofs.lemmas.Grind.{div_ceil_times}
 use Rattle.pe_pdb.specs.Places.{all_below}
-use Rattle.pe_core.specs.Bytes.{holds, le}
 use Rattle.pe_core.specs.Refusals.{outcome}
-use Rattle.pe_pdb.specs.Msf.{is_block_size, is_magic, is_pdb20, superblock, superblock_of}
-use Rattle.pe_pdb.specs.Refusals.{Short, Pdb20, PortablePdb, Magic, BlockSize, FileSize}
-use Rattle.pe_pdb.specs.declared.msf.TheConstants.{BSJB}
+use Rattle.pe_pdb.specs.Msf.{is_block_size, superblock, superblock_of}
 use Rattle.pe_pdb.specs.declared.msf.SuperBlock.{SuperBlock}
 
 -- ---- tests of all blocks
@@ -61,17 +57,11 @@ word_inside words i some = let low : i % words < words = mod_below i words some 
 
 -- a block lies in the file
 pub block_inside : (words blocks block size : ℕ) → blocks * (4 * words) ≤ size → block < blocks → 4 * words * block + 4 * words ≤ size
-block_inside words blocks block size inside lt =
-    let more : (block + 1) * (4 * words) ≤ blocks * (4 * words) = mul-le-mul_right (4 * words) (omega (arith, lt)) in
-    let same : 4 * words * block ≡ block * (4 * words) = mul_comm (4 * words) block in
-    let next : (block + 1) * (4 * words) ≡ block * (4 * words) + 4 * words = grind arith in
-    omega (arith, more, same, next, inside)
+block_inside words blocks block size inside lt = grind (arith, mul-le-mul_right, mul_comm)
 
 -- the block of a byte or a word is one of those that so many take
 pub block_counted : (n size o : ℕ) → 0 < size → o < n → o / size < div_ceil n size
-block_counted n size o some lt =
-    let times = div_ceil_times n size some in
-    (div-lt_iff_lt-mul some).1 (omega (arith, lt, times.0))
+block_counted n size o some lt = grind (arith, div_ceil_times, div-lt_iff_lt-mul)
 
 -- bytes take few blocks
 pub blocks_few : (n size : ℕ) → div_ceil n size ≤ n + 1
@@ -85,41 +75,20 @@ words_some n e = grind (arith, nat_tests)
 pub words_small : (n : ℕ) → is_block_size n ≡ true → n / 4 ≤ 8192
 words_small n e = grind (arith, nat_tests)
 
-words_whole : (n : ℕ) → is_block_size n ≡ true → 4 * (n / 4) ≡ n
-words_whole n e = grind (arith, nat_tests)
-
 pub blocks_inside : (n m size : ℕ) → is_block_size n ≡ true → m * n ≤ size → m * (4 * (n / 4)) ≤ size
-blocks_inside n m size e inside = subst (λ k. m * k ≤ size) (sym (words_whole n e)) inside
+blocks_inside n m size e inside = grind (arith, nat_tests)
 
 pub one_block : (blocks width size : ℕ) → 0 < blocks → blocks * width ≤ size → width ≤ size
-one_block blocks width size some inside =
-    let one : 1 * width ≤ blocks * width = mul-le-mul_right width (omega (arith, some)) in
-    let same : 1 * width ≡ width = grind arith in
-    omega (arith, one, same, inside)
+one_block blocks width size some inside = grind (arith, mul-le-mul_right)
 
 -- ---- what the tests of a superblock say of the one that passes them
 
 passed : {Y R : Type 0} (t : Bool) (k : R) (tests : List (Bool × R)) (v y : Y) → outcome ((t, k) ∷ tests) v ≡ Ok y → (t ≡ true) × (outcome tests v ≡ Ok y)
-passed true k tests v y e = (refl, e)
-passed false k tests v y e = absurd cc
+passed t k tests v y e = grind arith
 
 ok_same : {Y R : Type 0} (v y : Y) → ◌≡◌ {A = Result Y R} (Ok v) (Ok y) → v ≡ y
 ok_same v y e = cc
 
-all_passed : {Y R : Type 0} (a b c d e f : Bool) (p q r s t u : R) (v y : Y) → outcome ((a, p) ∷ (b, q) ∷ (c, r) ∷ (d, s) ∷ (e, t) ∷ (f, u) ∷ []) v ≡ Ok y → (e ≡ true) × (f ≡ true) × (v ≡ y)
-all_passed {Y} {R} a b c d e f p q r s t u v y h =
-    let one = passed a p ((b, q) ∷ (c, r) ∷ (d, s) ∷ (e, t) ∷ (f, u) ∷ []) v y h in
-    let two = passed b q ((c, r) ∷ (d, s) ∷ (e, t) ∷ (f, u) ∷ []) v y one.1 in
-    let three = passed c r ((d, s) ∷ (e, t) ∷ (f, u) ∷ []) v y two.1 in
-    let four = passed d s ((e, t) ∷ (f, u) ∷ []) v y three.1 in
-    let five = passed e t ((f, u) ∷ []) v y four.1 in
-    let six = passed f u [] v y five.1 in
-    (five.0, six.0, ok_same {Y = Y} {R = R} v y six.1)
-
 pub parsed : (b : List ℕ) (s : SuperBlock) → superblock_of b ≡ Ok s → (is_block_size s.block_size ≡ true) × (s.number_of_blocks * s.block_size ≤ length b)
 unfolding superblock
-parsed b s e =
-    let all = all_passed (holds b 0 56) (not (is_pdb20 b)) (not (le b 0 4 == BSJB)) (is_magic b) (is_block_size (le b 32 4)) (nat_le (le b 40 4 * le b 32 4) (length b)) Short Pdb20 PortablePdb Magic BlockSize FileSize (superblock b) s e in
-    let test = all.1 in
-    let inside : le b 40 4 * le b 32 4 ≤ length b = grind (arith, nat_tests) in
-    (subst (λ q. is_block_size q.block_size ≡ true) all.2 all.0, subst (λ q. q.number_of_blocks * q.block_size ≤ length b) all.2 inside)
+parsed b s e = grind (arith, nat_tests, passed, ok_same)

@@ -1,5 +1,5 @@
 -- Streams whose blocks follow one another.
-use Rattle.std.proofs.Common.{◌≡◌, ℕ, ◌+◌, ◌-◌, ◌*◌, ◌/◌, ◌%◌, ◌<◌, ◌≤◌, ◌==◌, Bool, true, false, cond, Option, Some, None, refl, ap, sym, ◌∙◌, arith, length, get_or}
+use Rattle.std.proofs.Common.{◌≡◌, ℕ, ◌+◌, ◌-◌, ◌*◌, ◌/◌, ◌<◌, ◌≤◌, ◌==◌, Bool, true, false, cond, Some, ap, sym, ◌∙◌, arith, length, get_or}
 use Rattle.std.specs.Int.{div_ceil}
 use Rattle.std.proofs.lemmas.Bool.Decides.{nat_tests}
 use Rattle.std.proofs.lemmas.List.{places, same_lists}
@@ -15,11 +15,7 @@ use Rattle.pe_pdb.proofs.StreamBytes.{byte_of_stream, follow_each, length_stream
 
 -- a byte stands as far after the start as in the stream
 at_offset : (s : StreamView) (o : ℕ) → word_of s.msf (s.first + o / (4 * s.msf.words)) ≡ word_of s.msf s.first + o / (4 * s.msf.words) → place_of s o ≡ 4 * s.msf.words * word_of s.msf s.first + o
-at_offset s o e =
-    let w = 4 * s.msf.words in
-    let whole : o / w * w + o % w ≡ o = div-add-mod' o w in
-    let product : w * (word_of s.msf s.first + o / w) ≡ w * word_of s.msf s.first + o / w * w = grind arith in
-    ap (λ k. w * k + o % w) e ∙ omega (arith, whole, product)
+at_offset s o e = grind (arith, div-add-mod')
 
 -- the range of the file from the first block on
 range_of : (s : StreamView) → 0 < s.msf.words → HasBlocks s → follow_on s (div_ceil s.size (4 * s.msf.words)) ≡ true → 0 < s.size → range s.msf.bytes (4 * s.msf.words * word_of s.msf s.first) s.size ≡ stream_bytes s
@@ -43,22 +39,11 @@ range_of s words has follow some =
 
 -- the same, by whether the stream has bytes
 range_if : (s : StreamView) (none : Bool) → (s.size == 0) ≡ none → 0 < s.msf.words → HasBlocks s → follow_on s (div_ceil s.size (4 * s.msf.words)) ≡ true → range s.msf.bytes (cond none 0 (block_start s 0)) s.size ≡ stream_bytes s
-range_if s true is words has follow =
-    let zero_size : s.size ≡ 0 = grind (arith, nat_tests) in
-    let one : length (range s.msf.bytes 0 s.size) ≡ s.size = length_range s.msf.bytes 0 s.size (omega (arith, zero_size)) in
-    let size : length (stream_bytes s) ≡ s.size = length_stream s in
-    same_lists _ _ (one ∙ sym size) (λ j d lt. absurd (omega (arith, lt, one, zero_size)))
+range_if s true is words has follow = grind (arith, nat_tests, length_range, length_stream, same_lists)
 range_if s false is words has follow =
     let some : 0 < s.size = grind (arith, nat_tests) in
     let first : s.first + 0 ≡ s.first = omega arith in
     ap (λ (k : ℕ). range s.msf.bytes (4 * s.msf.words * word_of s.msf k) s.size) first ∙ range_of s words has follow some
 
-range_found : (s : StreamView) (r : ByteRange) (test : Bool) → follow_on s (div_ceil s.size (4 * s.msf.words)) ≡ test → 0 < s.msf.words → HasBlocks s
-    → ◌≡◌ {A = Option ByteRange} (cond test (Some (record { offset = cond (s.size == 0) 0 (block_start s 0); length = s.size })) None) (Some r) → bytes_in s.msf.bytes r ≡ stream_bytes s
-range_found s r false follow words has e = absurd cc
-range_found s r true follow words has e =
-    let is : ◌≡◌ {A = ByteRange} (record { offset = cond (s.size == 0) 0 (block_start s 0); length = s.size }) r = cc in
-    ap (λ (q : ByteRange). bytes_in s.msf.bytes q) (sym is) ∙ range_if s (s.size == 0) refl words has follow
-
 pub of_range : (s : StreamView) (r : ByteRange) → 0 < s.msf.words → HasBlocks s → contiguous_of s ≡ Some r → bytes_in s.msf.bytes r ≡ stream_bytes s
-of_range s r words has e = range_found s r (follow_on s (div_ceil s.size (4 * s.msf.words))) refl words has e
+of_range s r words has e = grind (arith, range_if)

@@ -1,19 +1,18 @@
 -- What lookups find is what reading lists from the start finds, and what frames are made of.
-use Rattle.std.proofs.Common.{◌≡◌, ℕ, zero, suc, ◌-◌, ◌<◌, ◌≤◌, Bool, true, false, List, [], ◌∷◌, ◌++◌, length, get_or, map, filter, Option, Some, None, Result, Ok, Err, refl, ap, sym, subst, ◌∙◌, arith, leb, ltb}
+use Rattle.std.proofs.Common.{◌≡◌, ℕ, zero, suc, ◌-◌, ◌<◌, ◌≤◌, Bool, true, false, List, [], ◌∷◌, ◌++◌, length, get_or, map, filter, Option, Some, None, Result, Ok, refl, ap, sym, subst, ◌∙◌, arith, leb, ltb, rules}
 use Rattle.std.proofs.lemmas.Bool.Decides.{nat_tests}
 use Rattle.std.specs.Option.{option_and_then, option_map, option_to_list}
 use Rattle.std.specs.Prelude.{◌&&◌, if◌then◌else◌, slice_get}
-use Rattle.std.specs.Result.{result_ok, result_unwrap_or}
+use Rattle.std.specs.Result.{result_ok}
 use Rattle.pe_core.specs.Refusals.{◌>>=◌}
-use Rattle.pe_pdb.specs.Frames.{FindsIn, Frame, HasStarts, ModuleParts, NoneHas, PdbParts, frames_at, frames_of, file_name, frames_or, greatest, id_record, inlined_frame, inlined_line, later, line_at, line_with, module_frames, module_with, own_frame, procedure_at, procedure_with, public_at, public_frame, symbol_before, unnamed, with_ids, with_lines, with_modules, with_names, without_file, without_source}
+use Rattle.pe_pdb.specs.Frames.{FindsIn, Frame, HasStarts, ModuleParts, NoneHas, PdbParts, frames_at, frames_of, file_name, frames_or, greatest, id_record, later, line_at, line_with, module_with, own_frame, procedure_at, procedure_with, public_at, public_frame, symbol_before, unnamed, with_ids, with_lines, with_modules, with_names, without_file, without_source}
 use Rattle.pe_pdb.specs.Ids.{TypesView, count_of, record_by, record_from, start_of}
-use Rattle.pe_pdb.specs.InlineStacks.{inline_stack}
 use Rattle.pe_pdb.specs.LineEntries.{module_lines}
-use Rattle.pe_pdb.specs.LineIndexes.{LastBefore, LineAt}
+use Rattle.pe_pdb.specs.LineIndexes.{LineAt}
 use Rattle.pe_pdb.specs.Refusals.{PdbRefusal}
-use Rattle.pe_pdb.specs.SymbolEntries.{addresses, rva_in}
-use Rattle.pe_pdb.specs.SymbolIndexes.{Covering, Nearest, if_reaches, symbol_address}
-use Rattle.pe_pdb.specs.Symbols.{Symbol, symbol_at}
+use Rattle.pe_pdb.specs.SymbolEntries.{addresses}
+use Rattle.pe_pdb.specs.SymbolIndexes.{Covering, Nearest, if_reaches}
+use Rattle.pe_pdb.specs.Symbols.{symbol_at}
 use Rattle.pe_pdb.specs.declared.inline_walk.InlineFrame.{InlineFrame}
 use Rattle.pe_pdb.specs.declared.inlinee.SourceLine.{SourceLine}
 use Rattle.pe_pdb.specs.declared.line_entries.CodeLine.{CodeLine}
@@ -55,33 +54,15 @@ skipped key p x xs (Some y) fails g = (
 
 -- one that passes, where no other does
 alone : {X : Type 0} (key : X → ℕ) (p : X → Bool) (x : X) (xs : List X) → p x ≡ true → Greatest key p xs None → IsGreatest key p (x ∷ xs) 0 x
-alone key p x xs passes none = record {
-  listed = omega arith;
-  is = λ d. refl;
-  passes = passes;
-  last = λ k d. by_place (λ k. k < suc (length xs) → p (get_or (x ∷ xs) k d) ≡ true → key (get_or (x ∷ xs) k d) ≤ key x) (λ lt t. omega arith) (λ k lt t. let f = none k d (omega (arith, lt)) in absurd (cc (f, t))) k;
-  latest = λ k d. by_place (λ k. k < suc (length xs) → p (get_or (x ∷ xs) k d) ≡ true → key (get_or (x ∷ xs) k d) ≡ key x → k ≤ 0) (λ lt t e. omega arith) (λ k lt t e. let f = none k d (omega (arith, lt)) in absurd (cc (f, t))) k;
-}
+alone key p x xs passes none = grind (arith, by_place)
 
 -- one that passes, before one that is as great or greater
 after : {X : Type 0} (key : X → ℕ) (p : X → Bool) (x y : X) (xs : List X) (i : ℕ) → key x ≤ key y → IsGreatest key p xs i y → IsGreatest key p (x ∷ xs) (suc i) y
-after key p x y xs i le g = record {
-  listed = let l = g.listed in omega (arith, l);
-  is = g.is;
-  passes = g.passes;
-  last = λ k d. by_place (λ k. k < suc (length xs) → p (get_or (x ∷ xs) k d) ≡ true → key (get_or (x ∷ xs) k d) ≤ key y) (λ lt t. le) (λ k lt t. g.last k d (omega (arith, lt)) t) k;
-  latest = λ k d. by_place (λ k. k < suc (length xs) → p (get_or (x ∷ xs) k d) ≡ true → key (get_or (x ∷ xs) k d) ≡ key y → k ≤ suc i) (λ lt t e. omega arith) (λ k lt t e. let l = g.latest k d (omega (arith, lt)) t e in omega (arith, l)) k;
-}
+after key p x y xs i le g = grind (arith, by_place)
 
 -- one that passes, and is greater than those after it
 before : {X : Type 0} (key : X → ℕ) (p : X → Bool) (x y : X) (xs : List X) (i : ℕ) → key y < key x → p x ≡ true → IsGreatest key p xs i y → IsGreatest key p (x ∷ xs) 0 x
-before key p x y xs i less passes g = record {
-  listed = omega arith;
-  is = λ d. refl;
-  passes = passes;
-  last = λ k d. by_place (λ k. k < suc (length xs) → p (get_or (x ∷ xs) k d) ≡ true → key (get_or (x ∷ xs) k d) ≤ key x) (λ lt t. omega arith) (λ k lt t. let l = g.last k d (omega (arith, lt)) t in omega (arith, l, less)) k;
-  latest = λ k d. by_place (λ k. k < suc (length xs) → p (get_or (x ∷ xs) k d) ≡ true → key (get_or (x ∷ xs) k d) ≡ key x → k ≤ 0) (λ lt t e. omega arith) (λ k lt t e. let l = g.last k d (omega (arith, lt)) t in absurd (omega (arith, l, less, e))) k;
-}
+before key p x y xs i less passes g = grind (arith, by_place)
 
 later_if : {X : Type 0} (key : X → ℕ) (p : X → Bool) (x y : X) (xs : List X) (t : Bool) → leb (key x) (key y) ≡ t → p x ≡ true → Greatest key p xs (Some y) → Greatest key p (x ∷ xs) (if t then Some y else Some x)
 later_if key p x y xs true is passes g = (suc g.0, after key p x y xs g.0 (grind (arith, nat_tests)) g.1)
@@ -93,8 +74,7 @@ later_is key p x xs (Some y) passes g = later_if key p x y xs (leb (key x) (key 
 
 greatest_if : {X : Type 0} (key : X → ℕ) (p : X → Bool) (x : X) (xs : List X) (t : Bool) → p x ≡ t → Greatest key p xs (greatest key (filter p xs)) → Greatest key p (x ∷ xs) (greatest key (if t then x ∷ filter p xs else filter p xs))
 unfolding greatest
-greatest_if key p x xs true is g = later_is key p x xs (greatest key (filter p xs)) is g
-greatest_if key p x xs false is g = skipped key p x xs (greatest key (filter p xs)) is g
+greatest_if key p x xs t is g = grind (arith, later_is, skipped)
 
 pub greatest_of : {X : Type 0} (key : X → ℕ) (p : X → Bool) (xs : List X) → Greatest key p xs (greatest key (filter p xs))
 unfolding greatest
@@ -103,20 +83,8 @@ greatest_of key p (x ∷ xs) = greatest_if key p x xs (p x) refl (greatest_of ke
 
 -- ---- symbols
 
-near_of : (xs : List ℕ) (rva : ℕ) (o : Option ℕ) → Greatest (λ a. a) (λ a. leb (rva_in a) rva) xs o → Nearest xs rva (option_map symbol_address o)
-near_of xs rva None none = λ k d lt. let t : leb (rva_in (get_or xs k d)) rva ≡ false = none k d lt in grind (arith, nat_tests)
-near_of xs rva (Some a) g = (
-  a,
-  record {
-    listed = (g.0, g.1.listed, g.1.is a);
-    before = let t : leb (rva_in a) rva ≡ true = g.1.passes in grind (arith, nat_tests);
-    last = λ k d lt le. let t : leb (rva_in (get_or xs k d)) rva ≡ true = grind (arith, nat_tests) in g.1.last k d lt t;
-  },
-  refl,
-)
-
 nearest_here : (xs : List ℕ) (rva : ℕ) → Nearest xs rva (symbol_before xs rva)
-nearest_here xs rva = near_of xs rva (greatest (λ a. a) (filter (λ a. leb (rva_in a) rva) xs)) (greatest_of (λ a. a) (λ a. leb (rva_in a) rva) xs)
+nearest_here xs rva = grind (arith, greatest_of, nat_tests, before)
 
 pub nearest_is : (xs : List ℕ) (rva : ℕ) (found : Option SymbolAddress) → (Nearest xs rva found → found ≡ symbol_before xs rva) × (found ≡ symbol_before xs rva → Nearest xs rva found)
 nearest_is xs rva found = (λ near. nearest_once xs rva found (symbol_before xs rva) near (nearest_here xs rva), λ is. subst (Nearest xs rva) (sym is) (nearest_here xs rva))
@@ -126,29 +94,8 @@ covering_is xs b rva found = (λ c. c.2 ∙ ap (if_reaches b rva) ((nearest_is x
 
 -- ---- lines
 
-last_of : (xs : List CodeLine) (rva : ℕ) (o : Option CodeLine) → Greatest (λ x. x.rva) (λ x. leb x.rva rva) xs o → LastBefore xs rva o
-last_of xs rva None none = λ k d lt. let t : leb (get_or xs k d).rva rva ≡ false = none k d lt in grind (arith, nat_tests)
-last_of xs rva (Some x) g = (
-  g.0,
-  record {
-    listed = g.1.listed;
-    before = λ d. let t : leb x.rva rva ≡ true = g.1.passes in let e = ap (λ (y : CodeLine). y.rva) (g.1.is d) in grind (arith, nat_tests);
-    last = λ k d lt le.
-        let t : leb (get_or xs k d).rva rva ≡ true = grind (arith, nat_tests) in
-        let l = g.1.last k d lt t in
-        let e = ap (λ (y : CodeLine). y.rva) (g.1.is d) in omega (arith, l, e);
-    latest = λ k d lt same.
-        let b : leb x.rva rva ≡ true = g.1.passes in
-        let e = ap (λ (y : CodeLine). y.rva) (g.1.is d) in
-        let t : leb (get_or xs k d).rva rva ≡ true = grind (arith, nat_tests) in g.1.latest k d lt t (same ∙ e);
-  },
-  g.1.is,
-)
-
 line_here : (xs : List CodeLine) (rva : ℕ) → LineAt xs rva (line_with xs rva)
-line_here xs rva =
-    let o = greatest (λ (x : CodeLine). x.rva) (filter (λ (x : CodeLine). leb x.rva rva) xs) in
-    (o, last_of xs rva o (greatest_of (λ (x : CodeLine). x.rva) (λ x. leb x.rva rva) xs), refl)
+line_here xs rva = grind (arith, greatest_of, nat_tests, before)
 
 pub line_is : (xs : List CodeLine) (rva : ℕ) (found : Option CodeLine) → (LineAt xs rva found → found ≡ line_with xs rva) × (found ≡ line_with xs rva → LineAt xs rva found)
 line_is xs rva found = (λ at. line_once xs rva found (line_with xs rva) at (line_here xs rva), λ is. subst (LineAt xs rva) (sym is) (line_here xs rva))
@@ -167,8 +114,7 @@ id_if t starts id true is has =
     let low : id - t.first < count_of t = grind (arith, nat_tests) in
     let all : count_of t ≤ length starts = has.0 in
     let k = id - t.first in
-    ap (record_from t.records) (got starts k 0 (omega (arith, low, all)))
-    ∙ sym (ap (λ (r : Result ℕ PdbRefusal). r >>= λ p. symbol_at t.records p >>= λ s. Ok (Some s)) (has.1 k 0 low))
+    grind (arith, got starts k 0 (omega (arith, low, all)), has.1 k 0 low)
 
 pub id_is : (t : TypesView) (starts : List ℕ) (id : ℕ) → HasStarts t starts → record_by t starts id ≡ id_record t id
 id_is t starts id has = id_if t starts id (leb t.first id && ltb id t.end) refl has
@@ -180,8 +126,7 @@ same_functions f g same = λ i x. same x i
 
 found_is : {X Y : Type 0} (Finds : List X → Option Y → Type 0) (f : List X → Option Y) (xs : Result (List X) PdbRefusal) (found : Option Y) →
     ((xs : List X) (found : Option Y) → Finds xs found → found ≡ f xs) → FindsIn Finds xs found → option_and_then f (result_ok xs) ≡ found
-found_is Finds f (Ok xs) found is finds = sym (is xs found finds)
-found_is Finds f (Err r) found is finds = sym finds
+found_is Finds f xs found is finds = grind arith
 
 pub procedures_found : (p : PdbParts) (m : ModuleParts) (rva : ℕ) (starts : List ℕ) (a : SymbolAddress) (line : Option CodeLine) →
     module_with p rva ≡ Some m → FindsIn (λ xs found. Covering xs m.symbols rva found) (addresses Procedures m.symbols 4 p.sections) (Some a) →
@@ -192,30 +137,16 @@ procedures_found p m rva starts a line own finds lines has =
     let procedure : procedure_at p m rva ≡ Some a = found_is (λ xs found. Covering xs m.symbols rva found) (λ xs. procedure_with xs m.symbols rva) (addresses Procedures m.symbols 4 p.sections) (Some a) (λ xs found. (covering_is xs m.symbols rva found).0) finds in
     let at : line_at p m rva ≡ line = found_is (λ xs found. LineAt xs rva found) (λ xs. line_with xs rva) (module_lines p.sections m.lines) line (λ xs found. (line_is xs rva found).0) lines in
     let records : id_record p.ids ≡ record_by p.ids starts = same_functions (id_record p.ids) (record_by p.ids starts) (λ id. sym (id_is p.ids starts id has)) in
-    ap (λ (o : Option ModuleParts). frames_or public (option_and_then (module_frames p rva) o)) own
-    ∙ ap (λ (o : Option SymbolAddress). frames_or public (option_map (frames_of (id_record p.ids) p.names m rva (line_at p m rva)) o)) procedure
-    ∙ ap (λ (o : Option CodeLine). frames_of (id_record p.ids) p.names m rva o a) at
-    ∙ ap (λ (r : ℕ → Result (Option Symbol) PdbRefusal). frames_of r p.names m rva line a) records
-
-none_has : (p : PdbParts) (rva : ℕ) (o : Option ModuleParts) → NoneHas p rva o → option_and_then (module_frames p rva) o ≡ None
-none_has p rva None none = refl
-none_has p rva (Some m) none =
-    ap (λ (o : Option SymbolAddress). option_map (frames_of (id_record p.ids) p.names m rva (line_at p m rva)) o)
-    (found_is (λ xs found. Covering xs m.symbols rva found) (λ xs. procedure_with xs m.symbols rva) (addresses Procedures m.symbols 4 p.sections) None (λ xs found. (covering_is xs m.symbols rva found).0) none)
+    grind (arith, own, procedure, at, records)
 
 pub publics_found : (p : PdbParts) (rva : ℕ) (found : Option SymbolAddress) → NoneHas p rva (module_with p rva) →
     FindsIn (λ xs found. Nearest xs rva found) (addresses PublicFunctions p.publics 0 p.sections) found → frames_at p rva ≡ option_to_list (option_map (public_frame p.publics) found)
-publics_found p rva found none finds =
-    let public = option_map (public_frame p.publics) (public_at p rva) in
-    ap (frames_or public) (none_has p rva (module_with p rva) none)
-    ∙ ap (λ (o : Option SymbolAddress). option_to_list (option_map (public_frame p.publics) o))
-    (found_is (λ xs found. Nearest xs rva found) (λ xs. symbol_before xs rva) (addresses PublicFunctions p.publics 0 p.sections) found (λ xs found. (nearest_is xs rva found).0) finds)
+publics_found p rva found none finds = grind (arith, found_is, nearest_is, covering_is)
 
 -- ---- a module alone
 
 pub modules_alone : (p : PdbParts) (rva : ℕ) (modules : List ModuleParts) → module_with (with_modules p modules) rva ≡ module_with p rva → frames_at (with_modules p modules) rva ≡ frames_at p rva
-modules_alone p rva modules same =
-    ap (λ (o : Option ModuleParts). frames_or (option_map (public_frame p.publics) (public_at p rva)) (option_and_then (module_frames p rva) o)) same
+modules_alone p rva modules same = grind arith
 
 -- frames that differ in what g leaves out
 alike : (g : Frame → Frame) (u v : InlineFrame → Frame) (fs : List InlineFrame) (x y : Frame) → ((f : InlineFrame) → g (u f) ≡ g (v f)) → g x ≡ g y → map g (map u fs ++ x ∷ []) ≡ map g (map v fs ++ y ∷ [])
@@ -225,40 +156,26 @@ alike g u v (f ∷ fs) x y each last = ap (λ (z : Frame). z ∷ map g (map u fs
 -- the same of what stands for frames, where a public function may
 alike_or : (g : Frame → Frame) (public : Option Frame) (u v : SymbolAddress → List Frame) (o : Option SymbolAddress) → ((a : SymbolAddress) → map g (u a) ≡ map g (v a)) →
     map g (frames_or public (option_map u o)) ≡ map g (frames_or public (option_map v o))
-alike_or g public u v None each = refl
-alike_or g public u v (Some a) each = each a
+alike_or g public u v o each = grind arith
 
 alike_in : (g : Frame → Frame) (public : Option Frame) (u v : ModuleParts → SymbolAddress → List Frame) (at : ModuleParts → Option SymbolAddress) (o : Option ModuleParts) → ((m : ModuleParts) (a : SymbolAddress) → map g (u m a) ≡ map g (v m a)) →
     map g (frames_or public (option_and_then (λ m. option_map (u m) (at m)) o)) ≡ map g (frames_or public (option_and_then (λ m. option_map (v m) (at m)) o))
-alike_in g public u v at None each = refl
-alike_in g public u v at (Some m) each = alike_or g public (u m) (v m) (at m) (each m)
+alike_in g public u v at o each = grind (arith, alike_or)
 
 pub ids_alone : (p : PdbParts) (rva : ℕ) (ids : TypesView) → map unnamed (frames_at (with_ids p ids) rva) ≡ map unnamed (frames_at p rva)
-ids_alone p rva ids = alike_in unnamed (option_map (public_frame p.publics) (public_at p rva))
-    (λ m. frames_of (id_record ids) p.names m rva (line_at p m rva)) (λ m. frames_of (id_record p.ids) p.names m rva (line_at p m rva)) (λ m. procedure_at p m rva) (module_with p rva)
-    (λ m a. alike unnamed (inlined_frame (id_record ids) p.names m) (inlined_frame (id_record p.ids) p.names m) (result_unwrap_or (inline_stack m.symbols a.record_offset (rva - a.rva)) []) (own_frame p.names m a (line_at p m rva)) (own_frame p.names m a (line_at p m rva)) (λ f. refl) refl)
+ids_alone p rva ids = grind (arith, alike_in, alike)
 
 file_left_out : (names others : List ℕ) (m : ModuleParts) (a : SymbolAddress) (line : Option CodeLine) → without_file (own_frame names m a line) ≡ without_file (own_frame others m a line)
-file_left_out names others m a None = refl
-file_left_out names others m a (Some x) = refl
+file_left_out names others m a line = grind arith
 
 file_left_inlined : (names others : List ℕ) (m : ModuleParts) (name scope : Option (List ℕ)) (o : Option SourceLine) →
     without_file (record { name = name; scope = scope; source = option_map (λ (x : SourceLine). record { file = file_name names m x.file; line = x.line; column = 0 }) o; is_inlined = true })
     ≡ without_file (record { name = name; scope = scope; source = option_map (λ (x : SourceLine). record { file = file_name others m x.file; line = x.line; column = 0 }) o; is_inlined = true })
-file_left_inlined names others m name scope None = refl
-file_left_inlined names others m name scope (Some x) = refl
+file_left_inlined names others m name scope o = grind arith
 
 pub names_alone : (p : PdbParts) (rva : ℕ) (names : List ℕ) → map without_file (frames_at (with_names p names) rva) ≡ map without_file (frames_at p rva)
-names_alone p rva names = alike_in without_file (option_map (public_frame p.publics) (public_at p rva))
-    (λ m. frames_of (id_record p.ids) names m rva (line_at p m rva)) (λ m. frames_of (id_record p.ids) p.names m rva (line_at p m rva)) (λ m. procedure_at p m rva) (module_with p rva)
-    (λ m a. alike without_file (inlined_frame (id_record p.ids) names m) (inlined_frame (id_record p.ids) p.names m) (result_unwrap_or (inline_stack m.symbols a.record_offset (rva - a.rva)) []) (own_frame names m a (line_at p m rva)) (own_frame p.names m a (line_at p m rva))
-    (λ f. file_left_inlined names p.names m _ _ (inlined_line m f)) (file_left_out names p.names m a (line_at p m rva)))
+names_alone p rva names = search (rules, arith, alike_in, alike, file_left_inlined, file_left_out)
 
 pub lines_alone : (p : PdbParts) (rva : ℕ) (modules : List ModuleParts) (m : ModuleParts) (lines : List ℕ) →
     module_with p rva ≡ Some m → module_with (with_modules p modules) rva ≡ Some (with_lines m lines) → map without_source (frames_at (with_modules p modules) rva) ≡ map without_source (frames_at p rva)
-lines_alone p rva modules m lines one other =
-    let public = option_map (public_frame p.publics) (public_at p rva) in
-    ap (λ (o : Option ModuleParts). map without_source (frames_or public (option_and_then (module_frames p rva) o))) other
-    ∙ alike_or without_source public (frames_of (id_record p.ids) p.names (with_lines m lines) rva (line_at p (with_lines m lines) rva)) (frames_of (id_record p.ids) p.names m rva (line_at p m rva)) (procedure_at p m rva)
-    (λ a. alike without_source (inlined_frame (id_record p.ids) p.names (with_lines m lines)) (inlined_frame (id_record p.ids) p.names m) (result_unwrap_or (inline_stack m.symbols a.record_offset (rva - a.rva)) []) (own_frame p.names (with_lines m lines) a (line_at p (with_lines m lines) rva)) (own_frame p.names m a (line_at p m rva)) (λ f. refl) refl)
-    ∙ sym (ap (λ (o : Option ModuleParts). map without_source (frames_or public (option_and_then (module_frames p rva) o))) one)
+lines_alone p rva modules m lines one other = grind (arith, alike_or, alike)

@@ -1,5 +1,5 @@
 -- What a search by halves keeps, and how many entries it reads.
-use Rattle.std.proofs.Common.{◌≡◌, ℕ, ◌+◌, ◌/◌, ◌^◌, ◌<◌, ◌≤◌, List, length, get_or, ap, arith}
+use Rattle.std.proofs.Common.{◌≡◌, ℕ, ◌+◌, ◌/◌, ◌^◌, ◌<◌, ◌≤◌, List, length, get_or, arith}
 use Rattle.std.specs.Int.Digits.{digits_of}
 use Rattle.std.proofs.lemmas.Bool.Decides.{nat_tests}
 use Rattle.std.proofs.lemmas.Int.Digits.{length-digits_of_step, length-digits_of-le, number_lt, number_digits_of, all_below_base_digits_of}
@@ -7,10 +7,6 @@ use Rattle.pe_core.specs.CountedTable.{one_more}
 use Rattle.pe_pdb.specs.Lookups.{IsCut, digits}
 
 -- ---- the count of reads
-
-digits-half : (n : ℕ) → 0 < n → digits n ≡ digits (n / 2) + 1
-unfolding digits
-digits-half n h = length-digits_of_step 2 n (omega arith) h
 
 lt-digits : (n : ℕ) → n < 2 ^ digits n
 unfolding digits
@@ -22,7 +18,8 @@ digits-le m n h = length-digits_of-le 2 (digits n) m (omega arith) (omega (arith
 
 -- what is left after a halving has one digit less
 pub digits-halved : (n k : ℕ) → 0 < n → k ≤ n / 2 → digits k + 1 ≤ digits n
-digits-halved n k h l = omega (arith, digits-half n h, digits-le k (n / 2) l)
+unfolding digits
+digits-halved n k h l = omega (arith, length-digits_of_step 2 n (omega arith) h, digits-le k (n / 2) l)
 
 pub one_more-le : (n : ℕ) → one_more n ≤ n + 1
 one_more-le n = grind (arith, nat_tests)
@@ -30,34 +27,12 @@ one_more-le n = grind (arith, nat_tests)
 -- ---- the search
 
 pub starts : {X : Type 0} (start : X → ℕ) (xs : List X) (a n : ℕ) → n ≡ length xs → IsCut start xs a 0 n
-starts start xs a n all = record {
-  ordered = omega arith;
-  within = omega (arith, all);
-  before = λ up k d lt. absurd (omega (arith, lt));
-  after = λ up k d ge lt. absurd (omega (arith, all, ge, lt));
-}
+starts start xs a n all = grind arith
 
 -- an entry starts at or before the address: so do those before it
 pub goes_up : {X : Type 0} (start : X → ℕ) (xs : List X) (a low high m n end : ℕ) (x : X) → IsCut start xs a low high → m < high → n ≤ m + 1 → end ≡ high → ((d : X) → x ≡ get_or xs m d) → start x ≤ a → IsCut start xs a n end
-goes_up start xs a low high m n end x cut to next same is passes = record {
-  ordered = omega (arith, to, next, same);
-  within = let w = cut.within in omega (arith, same, w);
-  before = λ up k d lt.
-      let w = cut.within in
-      let here = ap start (is d) in
-      let below : start (get_or xs k d) ≤ start (get_or xs m d) = up k m d (omega (arith, lt, next)) (omega (arith, to, w)) in
-      omega (arith, here, below, passes);
-  after = λ up k d ge lt. cut.after up k d (omega (arith, same, ge)) lt;
-}
+goes_up start xs a low high m n end x cut to next same is passes = grind arith
 
 -- it starts after the address: so do those after it
 pub goes_down : {X : Type 0} (start : X → ℕ) (xs : List X) (a low high m end : ℕ) (x : X) → IsCut start xs a low high → low ≤ end → m ≤ end → end ≤ high → ((d : X) → x ≡ get_or xs m d) → a < start x → IsCut start xs a low end
-goes_down start xs a low high m end x cut from to within is fails = record {
-  ordered = from;
-  within = let w = cut.within in omega (arith, within, w);
-  before = cut.before;
-  after = λ up k d ge lt.
-      let here = ap start (is d) in
-      let above : start (get_or xs m d) ≤ start (get_or xs k d) = up m k d (omega (arith, to, ge)) lt in
-      omega (arith, here, above, fails);
-}
+goes_down start xs a low high m end x cut from to within is fails = grind arith

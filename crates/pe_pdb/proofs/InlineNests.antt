@@ -1,12 +1,11 @@
 -- The records of the inlined functions that have an offset nest.
-use Rattle.std.proofs.Common.{◌≡◌, ℕ, ◌+◌, ◌-◌, ◌<◌, Bool, true, false, List, [], ◌∷◌, Option, Some, None, Result, Ok, Err, refl, ap, sym, ◌∙◌, arith, ltb}
+use Rattle.std.proofs.Common.{◌≡◌, ℕ, ◌+◌, Bool, true, false, List, [], ◌∷◌, Option, Some, None, Result, Ok, Err, refl, ap, sym, ◌∙◌, arith, ltb}
 use Rattle.std.proofs.lemmas.Bool.Decides.{nat_tests}
-use Rattle.std.specs.Option.{option_map}
 use Rattle.std.specs.Prelude.{◌==◌, ◌&&◌, ◌||◌, if◌then◌else◌}
 use Rattle.pe_core.specs.Refusals.{◌>>=◌}
-use Rattle.pe_pdb.specs.Annotations.{has_offset, last_with, row_at}
-use Rattle.pe_pdb.specs.InlineNests.{RowsHave, SitesNest, keep_open, open_after, starts_scope}
-use Rattle.pe_pdb.specs.InlineSites.{after_end, after_inner, after_part, after_skipped, followed, found_or_skipped, frame_of, frames_in, inline_site_of, is_block, is_end, is_site, no_scopes, step_of}
+use Rattle.pe_pdb.specs.Annotations.{has_offset, last_with}
+use Rattle.pe_pdb.specs.InlineNests.{RowsHave, SitesNest, keep_open, open_after}
+use Rattle.pe_pdb.specs.InlineSites.{after_end, after_inner, after_part, followed, found_or_skipped, frame_of, frames_in, is_block, is_end, is_site, no_scopes, step_of}
 use Rattle.pe_pdb.specs.Procedures.{is_procedure}
 use Rattle.pe_pdb.specs.Refusals.{PdbRefusal}
 use Rattle.pe_pdb.specs.Symbols.{Symbol}
@@ -36,16 +35,11 @@ Leads n s m = (before : Records) → keep_open m before ≡ true → keep_open n
 passed_by : (x n m : ℕ) (s : Symbol) (more : Records) (frames : Frames) → Leads n s m → SitesNest x m more frames → SitesNest x n (Ok s ∷ more) frames
 passed_by x n m s more [] leads nest = tt
 passed_by x n m s more (Err r ∷ frames) leads nest = nest
-passed_by x n m s more (Ok f ∷ frames) leads nest =
-    let first : Result Symbol PdbRefusal = Ok s in
-    (nest.0, first ∷ nest.1, nest.2, ap (λ (l : Records). first ∷ l) nest.3, leads nest.1 nest.4, nest.5, nest.6)
+passed_by x n m s more (Ok f ∷ frames) leads nest = grind (arith)
 
 ends_one : (n m : ℕ) (s : Symbol) → is_end s.kind ≡ true → n ≡ m + 1 → Leads n s m
 unfolding keep_open
-ends_one n m s ends one before kept =
-    let some : ltb 0 n ≡ true = grind (arith, nat_tests) in
-    let less : n - 1 ≡ m = omega (arith, one) in
-    rw ends (rw some (ap (λ (k : ℕ). keep_open k before) less ∙ kept))
+ends_one n m s ends one = grind (arith, nat_tests)
 
 ends_none : (n m : ℕ) (s : Symbol) → is_end s.kind ≡ false → m ≡ open_after n s.kind → Leads n s m
 unfolding keep_open
@@ -65,40 +59,25 @@ goes_on x scopes next s more nested leads = passed_by x (opened scopes) (opened 
 
 -- a record that ends a scope
 end_open : (s : Scopes) (t : Bool) → (s.skipped == 0) ≡ t → (t && s.parts == 0) ≡ false → opened s ≡ opened (after_end s) + 1
-end_open s true is other =
-    let none : s.skipped ≡ 0 = grind (arith, nat_tests) in
-    let some : (s.parts == 0) ≡ false = other in
-    let parts : 0 < s.parts = grind (arith, nat_tests) in
-    rw is (omega (arith, none, parts))
-end_open s false is other =
-    let some : 0 < s.skipped = grind (arith, nat_tests) in
-    rw is (omega (arith, some))
+end_open s t is other = grind (arith, nat_tests)
 
 at_end : (x : ℕ) (scopes : Scopes) (s : Symbol) (more : Records) (t : Bool) → Nested x more → is_end s.kind ≡ true → (scopes.skipped == 0 && scopes.parts == 0) ≡ t →
     After x scopes s more (if t then Ok Over else Ok (On (after_end scopes)))
-at_end x scopes s more true nested ends is = tt
-at_end x scopes s more false nested ends is =
-    goes_on x scopes (after_end scopes) s more nested (ends_one (opened scopes) (opened (after_end scopes)) s ends (end_open scopes (scopes.skipped == 0) refl is))
+at_end x scopes s more t nested ends is = grind (arith, goes_on, ends_one, end_open)
 
 -- one within a scope that is left out
 inner_open : (s : Scopes) (kind : ℕ) (t : Bool) → (is_block kind || is_procedure kind || is_site kind) ≡ t → opened (after_inner kind s) ≡ open_after (opened s) kind
-inner_open s kind true is = rw is (omega arith)
-inner_open s kind false is = rw is refl
+inner_open s kind t is = grind arith
 
 -- a part of the function, or another record
 part_open : (s : Scopes) (kind : ℕ) (one two : Bool) → is_block kind ≡ one → is_procedure kind ≡ two → is_site kind ≡ false → s.skipped ≡ 0 → opened (after_part kind s) ≡ open_after (opened s) kind
-part_open s kind true two block procedure site none = rw block (omega (arith, none))
-part_open s kind false true block procedure site none = rw block (rw procedure (omega (arith, none)))
-part_open s kind false false block procedure site none = rw block (rw procedure (rw site refl))
+part_open s kind one two block procedure site none = grind arith
 
 -- an inlined function that is found, or left out
 at_site : (x : ℕ) (scopes : Scopes) (s : Symbol) (more : Records) (found : Result (Option InlineFrame) PdbRefusal) → Nested x more → is_end s.kind ≡ false → is_site s.kind ≡ true → frame_of x s ≡ found →
     After x scopes s more (found >>= λ frame. Ok (found_or_skipped scopes frame))
 at_site x scopes s more (Err r) nested other site is = refl
-at_site x scopes s more (Ok None) nested other site is =
-    let starts : starts_scope s.kind ≡ true = grind (arith, site) in
-    goes_on x scopes (after_skipped scopes) s more nested
-    (ends_none (opened scopes) (opened (after_skipped scopes)) s other (rw starts (omega arith)))
+at_site x scopes s more (Ok None) nested other site is = grind (arith, goes_on, ends_none)
 at_site x scopes s more (Ok (Some f)) nested other site is =
     (s, [], more, refl, unfold keep_open in refl, is, nested no_scopes)
 
@@ -113,10 +92,7 @@ at_start x scopes s more true u nested other is site =
     goes_on x scopes (after_inner s.kind scopes) s more nested
     (ends_none (opened scopes) (opened (after_inner s.kind scopes)) s other (inner_open scopes s.kind (is_block s.kind || is_procedure s.kind || is_site s.kind) refl))
 at_start x scopes s more false true nested other is site = at_site x scopes s more (frame_of x s) nested other site refl
-at_start x scopes s more false false nested other is site =
-    let none : scopes.skipped ≡ 0 = grind (arith, nat_tests) in
-    goes_on x scopes (after_part s.kind scopes) s more nested
-    (ends_none (opened scopes) (opened (after_part s.kind scopes)) s other (part_open scopes s.kind (is_block s.kind) (is_procedure s.kind) refl refl site none))
+at_start x scopes s more false false nested other is site = grind (arith, nat_tests, goes_on, ends_none, part_open)
 
 step_if : (x : ℕ) (scopes : Scopes) (s : Symbol) (more : Records) (t : Bool) → Nested x more → is_end s.kind ≡ t →
     After x scopes s more (
@@ -125,25 +101,19 @@ step_if : (x : ℕ) (scopes : Scopes) (s : Symbol) (more : Records) (t : Bool) �
     else if is_site s.kind then (frame_of x s >>= λ frame. Ok (found_or_skipped scopes frame))
     else Ok (On (after_part s.kind scopes))
     )
-step_if x scopes s more true nested is = at_end x scopes s more (scopes.skipped == 0 && scopes.parts == 0) nested is refl
-step_if x scopes s more false nested is = at_start x scopes s more (ltb 0 scopes.skipped) (is_site s.kind) nested is refl refl
-
-step_nests : (x : ℕ) (scopes : Scopes) (s : Symbol) (more : Records) → Nested x more → After x scopes s more (step_of x scopes s)
-unfolding step_of
-step_nests x scopes s more nested = step_if x scopes s more (is_end s.kind) nested refl
+step_if x scopes s more t nested is = grind (arith, at_end, at_start)
 
 pub sites_nest : (x : ℕ) (scopes : Scopes) (records : Records) → SitesNest x (opened scopes) records (frames_in x scopes records)
-unfolding frames_in
+unfolding frames_in step_of
 sites_nest x scopes [] = tt
 sites_nest x scopes (Err r ∷ more) = refl
-sites_nest x scopes (Ok s ∷ more) = step_nests x scopes s more (λ next. sites_nest x next more)
+sites_nest x scopes (Ok s ∷ more) = step_if x scopes s more (is_end s.kind) (λ next. sites_nest x next more) refl
 
 -- ---- rows
 
 last_if : (x : ℕ) (found : Option InlineRow) (row out : InlineRow) (t : Bool) → has_offset x row ≡ t → (found ≡ Some out → has_offset x out ≡ true) →
     (if t then Some row else found) ≡ Some out → has_offset x out ≡ true
-last_if x found row out true is before same = let e : row ≡ out = cc same in ap (has_offset x) (sym e) ∙ is
-last_if x found row out false is before same = before same
+last_if x found row out t is before same = grind arith
 
 last_has : (x : ℕ) (found : Option InlineRow) (rows : List (Result InlineRow PdbRefusal)) (out : InlineRow) →
     (found ≡ Some out → has_offset x out ≡ true) → last_with x found rows ≡ Ok (Some out) → has_offset x out ≡ true
@@ -153,22 +123,9 @@ last_has x found (Err r ∷ more) out before is = absurd (cc is)
 last_has x found (Ok row ∷ more) out before is =
     last_has x (if has_offset x row then Some row else found) more out (last_if x found row out (has_offset x row) refl before) is
 
-row_has : (x : ℕ) (b : List ℕ) (out : InlineRow) → row_at b x ≡ Ok (Some out) → has_offset x out ≡ true
-row_has x b out is = last_has x None _ out (λ e. absurd (cc e)) is
-
-row_of_frame : (x : ℕ) (record_offset inlinee : ℕ) (row : Option InlineRow) (f : InlineFrame) →
-    option_map (λ (r : InlineRow). record { record_offset = record_offset; inlinee = inlinee; row = r }) row ≡ Some f → row ≡ Some f.row
-row_of_frame x o i None f is = absurd (cc is)
-row_of_frame x o i (Some r) f is =
-    let same : record { record_offset = o; inlinee = i; row = r } ≡ f = cc is in ap (λ (g : InlineFrame). Some g.row) same
-
 frame_has : (x : ℕ) (s : Symbol) (f : InlineFrame) → frame_of x s ≡ Ok (Some f) → has_offset x f.row ≡ true
 unfolding frame_of
-frame_has x s f is =
-    let one = both (inline_site_of s.kind s.content) _ (Some f) is in
-    let two = both (row_at (one.0).annotations x) _ (Some f) one.2 in
-    let same : option_map (λ (r : InlineRow). record { record_offset = s.offset; inlinee = (one.0).inlinee; row = r }) two.0 ≡ Some f = cc two.2 in
-    row_has x (one.0).annotations f.row (two.1 ∙ ap (λ (o : Option InlineRow). Ok o) (row_of_frame x s.offset (one.0).inlinee two.0 f same))
+frame_has x s f is = grind (arith, both, last_has)
 
 rows_have : (x n : ℕ) (records : Records) (frames : Frames) → SitesNest x n records frames → RowsHave x frames
 rows_have x n records [] nest = tt

@@ -1,13 +1,11 @@
 -- Walks over the annotations and the rows of an inlined function, and over the functions that have an offset.
-use Rattle.std.proofs.Common.{◌≡◌, ℕ, ◌+◌, ◌<◌, ◌≤◌, Bool, true, false, List, [], ◌∷◌, length, Option, Some, None, Result, Ok, Err, refl, ap, sym, ◌∙◌, arith}
+use Rattle.std.proofs.Common.{◌≡◌, ℕ, ◌<◌, ◌≤◌, Bool, true, false, List, [], ◌∷◌, length, Option, Some, None, Result, Ok, Err, ap, ◌∙◌, arith}
 use Rattle.std.proofs.lemmas.Bool.Decides.{nat_tests}
-use Rattle.std.specs.Prelude.{◌==◌, nat_le, nat_lt, if◌then◌else◌}
-use Rattle.pe_core.specs.Bytes.{le, holds}
-use Rattle.pe_core.specs.Refusals.{outcome}
-use Rattle.pe_pdb.specs.Annotations.{annotation_at, annotations, closed, ended, found_in, kept, last_with, moved, number_at, number_size, number_value, row_from, rows_of, starts_row}
+use Rattle.std.specs.Prelude.{if◌then◌else◌}
+use Rattle.pe_pdb.specs.Annotations.{annotation_at, annotations, closed, ended, found_in, kept, last_with, moved, number_at, row_from, rows_of, starts_row}
 use Rattle.pe_pdb.specs.InlineWalks.{started}
 use Rattle.pe_pdb.specs.InlineSites.{followed, frames_in, step_of}
-use Rattle.pe_pdb.specs.Refusals.{PdbRefusal, Annotation as Refused}
+use Rattle.pe_pdb.specs.Refusals.{PdbRefusal}
 use Rattle.pe_pdb.specs.Symbols.{Symbol, symbol_at, symbol_end, symbols}
 use Rattle.pe_pdb.specs.Walks.{Advances}
 use Rattle.pe_pdb.specs.declared.annotation.Annotation.{Annotation}
@@ -23,46 +21,17 @@ use Rattle.pe_pdb.proofs.Walked.{items_none, items_step}
 -- a number ends after its start, in the bytes
 number_later : (b : List ℕ) (p : ℕ) (n : ℕ × ℕ) → number_at b p ≡ Ok n → (p < n.1) × (p < length b)
 unfolding number_at
-number_later b p n is =
-    let size : ℕ = number_size (le b p 1) in
-    let value : ℕ × ℕ = (number_value b p, p + size) in
-    let more : List (Bool × PdbRefusal) = (holds b p size, Refused) ∷ [] in
-    let same = passed ((holds b p 1, Refused) ∷ (nat_lt 0 size, Refused) ∷ more) value n is in
-    let first : holds b p 1 ≡ true = first_passed (holds b p 1) Refused ((nat_lt 0 size, Refused) ∷ more) value n is in
-    let some : nat_lt 0 size ≡ true = second_passed (holds b p 1) (nat_lt 0 size) Refused Refused more value n is in
-    let end : p + size ≡ n.1 = ap (λ (m : ℕ × ℕ). m.1) same in
-    let wide : 0 < size = grind (arith, nat_tests) in
-    let inside : p + 1 ≤ length b = grind (arith, nat_tests) in
-    (omega (arith, end, wide), omega (arith, inside))
+number_later b p n is = grind (arith, passed, first_passed, second_passed, nat_tests)
 
 later_if : (p : ℕ) (t : Bool) (x y : Result (Annotation × ℕ) PdbRefusal) (z : Annotation × ℕ) → (if t then x else y) ≡ Ok z → (x ≡ Ok z → p < z.1) → (y ≡ Ok z → p < z.1) → p < z.1
-later_if p true x y z is one other = one is
-later_if p false x y z is one other = other is
+later_if p t x y z is one other = grind arith
 
 same_end : (x z : Annotation × ℕ) → ◌≡◌ {A = Result (Annotation × ℕ) PdbRefusal} (Ok x) (Ok z) → x.1 ≡ z.1
 same_end x z is = let same : x ≡ z = cc is in ap (λ (y : Annotation × ℕ). y.1) same
 
 pub annotations_later : (b : List ℕ) → Advances (annotation_at b)
 unfolding annotation_at
-annotations_later b p z is =
-    let one = both (number_at b p) _ z is in
-    let op = one.0 in
-    let n = number_later b p op one.1 in
-    later_if p (op.0 == 0) _ _ z one.2
-    (λ e. let end = same_end _ z e in let inside = n.1 in omega (arith, end, inside))
-    (λ e.
-    let two = both (outcome ((nat_le op.0 13, Refused) ∷ []) p) _ z e in
-    let three = both (number_at b op.1) _ z two.2 in
-    let first = three.0 in
-    let m = number_later b op.1 first three.1 in
-    let low : p < first.1 = (let one = n.0 in let two = m.0 in omega (arith, one, two)) in
-    later_if p (op.0 == 12) _ _ z three.2
-    (λ e.
-    let four = both (number_at b first.1) _ z e in
-    let k = number_later b first.1 four.0 four.1 in
-    let end = same_end _ z four.2 in
-    let last = k.0 in omega (arith, low, last, end))
-    (λ e. let end = same_end _ z e in omega (arith, low, end)))
+annotations_later b = grind (arith, both, number_later, later_if, same_end)
 
 -- ---- rows
 
@@ -72,9 +41,6 @@ rows_end b p c last past = ap (λ (l : List (Result Annotation PdbRefusal)). row
 
 pub annotations_more : (b : List ℕ) (p : ℕ) (a : Annotation) (q : ℕ) → p < length b → annotation_at b p ≡ Ok (a, q) → annotations b p ≡ Ok a ∷ annotations b q
 annotations_more b p a q before is = items_step (annotation_at b) (annotations_later b) (length b) p before ∙ rw is
-
-annotations_refused : (b : List ℕ) (p : ℕ) (r : PdbRefusal) → p < length b → annotation_at b p ≡ Err r → annotations b p ≡ Err r ∷ []
-annotations_refused b p r before is = items_step (annotation_at b) (annotations_later b) (length b) p before ∙ rw is
 
 pub rows_started : (b : List ℕ) (p : ℕ) (c : Cursor) (last : Option OpenRow) (a : Annotation) (q : ℕ) → p < length b → annotation_at b p ≡ Ok (a, q) → starts_row a ≡ true →
     rows_of c last (annotations b p) ≡ ended last (moved c a).offset (rows_of (moved c a) (Some (row_from a (moved c a))) (annotations b q))
@@ -88,40 +54,30 @@ rows_on b p c last a q before is starts = ap (λ (l : List (Result Annotation Pd
 
 pub rows_refused : (b : List ℕ) (p : ℕ) (c : Cursor) (last : Option OpenRow) (r : PdbRefusal) → p < length b → annotation_at b p ≡ Err r → rows_of c last (annotations b p) ≡ Err r ∷ []
 unfolding rows_of
-rows_refused b p c last r before is = ap (λ (l : List (Result Annotation PdbRefusal)). rows_of c last l) (annotations_refused b p r before is)
+rows_refused b p c last r before is = grind (arith, items_step, annotations_later)
 
 -- a row that starts where there was one before it
 pub started_after : (c next : Cursor) (last after : Option OpenRow) (a : Annotation) (row before : OpenRow) (out : InlineRow) (more : List (Result Annotation PdbRefusal)) →
     next ≡ moved c a → row ≡ row_from a next → after ≡ Some row → last ≡ Some before → out ≡ closed before next.offset →
     ended last (moved c a).offset (rows_of (moved c a) (Some (row_from a (moved c a))) more) ≡ Ok out ∷ rows_of next after more
-started_after c next last after a row before out more at is made had closes =
-    ap (λ (o : Option OpenRow). ended o (moved c a).offset (rows_of (moved c a) (Some (row_from a (moved c a))) more)) had
-    ∙ ap (λ (k : Cursor). ended (Some before) k.offset (rows_of k (Some (row_from a k)) more)) (sym at)
-    ∙ ap (λ (r : InlineRow). ◌∷◌ (Ok r) (rows_of next (Some (row_from a next)) more)) (sym closes)
-    ∙ ap (λ (o : Option OpenRow). ◌∷◌ (Ok out) (rows_of next o more)) (ap (λ (r : OpenRow). Some r) (sym is) ∙ sym made)
+started_after c next last after a row before out more at is made had closes = grind arith
 
 -- and where there was none
 pub started_first : (c next : Cursor) (last after : Option OpenRow) (a : Annotation) (row : OpenRow) (more : List (Result Annotation PdbRefusal)) →
     next ≡ moved c a → row ≡ row_from a next → after ≡ Some row → last ≡ None →
     ended last (moved c a).offset (rows_of (moved c a) (Some (row_from a (moved c a))) more) ≡ rows_of next after more
-started_first c next last after a row more at is made had =
-    ap (λ (o : Option OpenRow). ended o (moved c a).offset (rows_of (moved c a) (Some (row_from a (moved c a))) more)) had
-    ∙ ap (λ (k : Cursor). rows_of k (Some (row_from a k)) more) (sym at)
-    ∙ ap (λ (o : Option OpenRow). rows_of next o more) (ap (λ (r : OpenRow). Some r) (sym is) ∙ sym made)
+started_first c next last after a row more at is made had = grind arith
 
 -- an annotation that starts none
 pub not_started : (c next : Cursor) (last after : Option OpenRow) (a : Annotation) (more : List (Result Annotation PdbRefusal)) →
     next ≡ moved c a → after ≡ kept a last → rows_of (moved c a) (kept a last) more ≡ rows_of next after more
-not_started c next last after a more at made =
-    ap (λ (k : Cursor). rows_of k (kept a last) more) (sym at) ∙ ap (λ (o : Option OpenRow). rows_of next o more) (sym made)
+not_started c next last after a more at made = grind arith
 
 pub started_few : (o : Option OpenRow) → started o ≤ 1
-started_few None = omega arith
-started_few (Some r) = omega arith
+started_few o = grind arith
 
 pub started_kept : (a : Annotation) (o : Option OpenRow) → started (kept a o) ≡ started o
-started_kept a None = refl
-started_kept a (Some r) = refl
+started_kept a o = grind arith
 
 -- ---- the last row of an offset
 
@@ -132,17 +88,12 @@ last_end x found rows is = ap (λ (l : List (Result InlineRow PdbRefusal)). last
 -- a row that is closed, if there is one
 pub last_ended : (x : ℕ) (found : Option InlineRow) (last : Option OpenRow) (next : ℕ) (more : List (Result InlineRow PdbRefusal)) → last_with x found (ended last next more) ≡ last_with x (found_in last next x found) more
 unfolding last_with
-last_ended x found None next more = refl
-last_ended x found (Some r) next more = refl
+last_ended x found last next more = grind arith
 
 pub row_closed : (x : ℕ) (found out : Option InlineRow) (c next : Cursor) (last : Option OpenRow) (a : Annotation) (row : OpenRow) (more : List (Result Annotation PdbRefusal)) →
     next ≡ moved c a → row ≡ row_from a next → out ≡ found_in last next.offset x found →
     last_with x found (ended last (moved c a).offset (rows_of (moved c a) (Some (row_from a (moved c a))) more)) ≡ last_with x out (rows_of next (Some row) more)
-row_closed x found out c next last a row more at is closes =
-    ap (λ (k : Cursor). last_with x found (ended last k.offset (rows_of k (Some (row_from a k)) more))) (sym at)
-    ∙ last_ended x found last next.offset (rows_of next (Some (row_from a next)) more)
-    ∙ ap (λ (o : Option InlineRow). last_with x o (rows_of next (Some (row_from a next)) more)) (sym closes)
-    ∙ ap (λ (r : OpenRow). last_with x out (rows_of next (Some r) more)) (sym is)
+row_closed x found out c next last a row more at is closes = grind (arith, last_ended)
 
 pub last_refused : (x : ℕ) (found : Option InlineRow) (rows more : List (Result InlineRow PdbRefusal)) (r : PdbRefusal) → rows ≡ Err r ∷ more → last_with x found rows ≡ Err r
 unfolding last_with

@@ -1,33 +1,18 @@
 -- Walks over the records of inlined functions.
-use Rattle.std.proofs.Common.{◌≡◌, ℕ, ◌+◌, ◌*◌, ◌<◌, ◌≤◌, Bool, true, false, List, [], ◌∷◌, length, Some, None, Result, Ok, Err, refl, ap, ◌∙◌, arith}
+use Rattle.std.proofs.Common.{◌≡◌, ℕ, ◌+◌, ◌<◌, ◌≤◌, Bool, true, false, List, [], ◌∷◌, length, Some, None, Ok, Err, refl, ap, ◌∙◌, arith}
 use Rattle.std.proofs.lemmas.Bool.Decides.{nat_tests}
 use Rattle.std.specs.Prelude.{◌==◌}
 use Rattle.pe_core.specs.Bytes.{le, holds}
-use Rattle.pe_core.specs.Refusals.{outcome}
-use Rattle.pe_pdb.specs.Inlinees.{first_inlinee, inlinee_at, inlinee_end, inlinee_row, inlinees}
-use Rattle.pe_pdb.specs.Refusals.{PdbRefusal, Short, RecordTruncated}
+use Rattle.pe_pdb.specs.Inlinees.{first_inlinee, inlinee_at, inlinee_row, inlinees}
+use Rattle.pe_pdb.specs.Refusals.{PdbRefusal}
 use Rattle.pe_pdb.specs.Walks.{Advances}
 use Rattle.pe_pdb.specs.declared.inlinee.InlineeLine.{InlineeLine}
 use Rattle.pe_pdb.proofs.RecordWalks.{both, passed}
 use Rattle.pe_pdb.proofs.Walked.{items_none, items_step}
 
-end_later : (extended : Bool) (b : List ℕ) (p n : ℕ) → inlinee_end extended b p ≡ Ok n → p < n
-end_later true b p n is =
-    let same : p + 16 + 4 * le b (p + 12) 4 ≡ n = passed ((holds b (p + 12) 4, Short) ∷ (holds b (p + 16) (4 * le b (p + 12) 4), RecordTruncated) ∷ []) (p + 16 + 4 * le b (p + 12) 4) n is in
-    omega (arith, same)
-end_later false b p n is = let same : p + 12 ≡ n = cc is in omega (arith, same)
-
-same_end : (x z : InlineeLine × ℕ) → ◌≡◌ {A = Result (InlineeLine × ℕ) PdbRefusal} (Ok x) (Ok z) → x.1 ≡ z.1
-same_end x z is = let same : x ≡ z = cc is in ap (λ (y : InlineeLine × ℕ). y.1) same
-
 inlinees_later : (extended : Bool) (b : List ℕ) → Advances (inlinee_at extended b)
 unfolding inlinee_at
-inlinees_later extended b p z is =
-    let one = both (outcome ((holds b p 12, Short) ∷ []) p) _ z is in
-    let two = both (inlinee_end extended b p) _ z one.2 in
-    let later = end_later extended b p two.0 two.1 in
-    let end = same_end _ z two.2 in
-    omega (arith, later, end)
+inlinees_later extended b = grind (arith, both, passed)
 
 pub first_end : (id : ℕ) (b : List ℕ) (p : ℕ) → length b ≤ p → first_inlinee id (inlinees b p) ≡ Ok None
 unfolding first_inlinee
@@ -49,13 +34,10 @@ plain_at : (extended : Bool) (b : List ℕ) (p : ℕ) → extended ≡ false →
 unfolding inlinee_at
 plain_at extended b p plain inside = let t : holds b p 12 ≡ true = grind (arith, nat_tests) in rw plain (rw t)
 
-row_id : (b : List ℕ) (p : ℕ) → (inlinee_row b p).inlinee ≡ le b p 4
-unfolding inlinee_row
-row_id b p = refl
-
 pub first_skipped : (id : ℕ) (b : List ℕ) (p : ℕ) → (le b 0 4 == 1) ≡ false → p + 12 ≤ length b → (le b p 4 == id) ≡ false → first_inlinee id (inlinees b p) ≡ first_inlinee id (inlinees b (p + 12))
+unfolding inlinee_row
 first_skipped id b p plain inside other =
-    first_later id b p (inlinee_row b p) (p + 12) (omega (arith, inside)) (plain_at (le b 0 4 == 1) b p plain inside) (ap (λ (n : ℕ). n == id) (row_id b p) ∙ other)
+    first_later id b p (inlinee_row b p) (p + 12) (omega (arith, inside)) (plain_at (le b 0 4 == 1) b p plain inside) (ap (λ (n : ℕ). n == id) refl ∙ other)
 
 inlinees_refused : (b : List ℕ) (p : ℕ) (r : PdbRefusal) → p < length b → inlinee_at (le b 0 4 == 1) b p ≡ Err r → inlinees b p ≡ Err r ∷ []
 inlinees_refused b p r before is = items_step (inlinee_at (le b 0 4 == 1) b) (inlinees_later (le b 0 4 == 1) b) (length b) p before ∙ rw is

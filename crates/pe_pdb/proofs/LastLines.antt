@@ -1,5 +1,5 @@
 -- What the last line before an RVA is.
-use Rattle.std.proofs.Common.{◌≡◌, ℕ, ◌+◌, ◌-◌, ◌<◌, ◌≤◌, ◌&&◌, Bool, true, false, List, get_or, Option, Some, None, refl, ap, sym, subst, ◌∙◌, arith}
+use Rattle.std.proofs.Common.{◌≡◌, ℕ, ◌+◌, ◌-◌, ◌<◌, ◌≤◌, ◌&&◌, Bool, true, List, get_or, Option, Some, None, refl, ap, sym, ◌∙◌, arith}
 use Rattle.std.proofs.lemmas.Bool.Decides.{nat_tests}
 use Rattle.std.specs.List.{All}
 use Rattle.std.specs.Prelude.{nat_lt, if◌then◌else◌}
@@ -30,25 +30,10 @@ pub line_once : (xs : List CodeLine) (rva : ℕ) (one other : Option CodeLine) �
 line_once xs rva one other a b = a.2 ∙ ap (if_covers rva) (same_last xs rva a.0 b.0 a.1 b.1) ∙ sym b.2
 
 pub last_later : (xs : List CodeLine) (rva x i : ℕ) → IsLastBefore xs rva i → rva ≤ x → NoneStarts xs rva x → IsLastBefore xs x i
-last_later xs rva x i last le none = record {
-  listed = last.listed;
-  before = λ d. let b = last.before d in omega (arith, b, le);
-  last = λ k d lt low. last.last k d lt (none k d lt low);
-  latest = last.latest;
-}
+last_later xs rva x i last le none = grind arith
 
 covers_by : (rva : ℕ) (x line : CodeLine) (t u : Bool) → nat_lt (rva - x.rva) x.code_size ≡ t → is_line x.line ≡ u → (if t && u then Some x else None) ≡ Some line → (x ≡ line) × (rva - x.rva < x.code_size) × (is_line x.line ≡ true)
-covers_by rva x line true true low is found = (cc found, grind (arith, nat_tests), is)
-covers_by rva x line true false low is found = absurd (cc found)
-covers_by rva x line false u low is found = absurd (cc found)
-
-covered_by : (xs : List CodeLine) (rva : ℕ) (last : Option CodeLine) (line : CodeLine) → LastBefore xs rva last → Some line ≡ if_covers rva last → (line.rva ≤ rva) × (rva < line.rva + line.code_size) × (is_line line.line ≡ true)
-covered_by xs rva None line last is = absurd (cc is)
-covered_by xs rva (Some x) line last is =
-    let found = covers_by rva x line (nat_lt (rva - x.rva) x.code_size) (is_line x.line) refl refl (sym is) in
-    let before : x.rva ≤ rva = subst (λ (x : CodeLine). x.rva ≤ rva) (last.2 x) (last.1.before x) in
-    let low : rva - x.rva < x.code_size = found.1 in
-    subst (λ (x : CodeLine). (x.rva ≤ rva) × (rva < x.rva + x.code_size) × (is_line x.line ≡ true)) found.0 (before, omega (arith, before, low), found.2)
+covers_by rva x line t u low is found = grind (arith, nat_tests)
 
 pub line_covers : (xs : List CodeLine) (rva : ℕ) (line : CodeLine) → LineAt xs rva (Some line) → (line.rva ≤ rva) × (rva < line.rva + line.code_size) × (is_line line.line ≡ true)
-line_covers xs rva line at = covered_by xs rva at.0 line at.1 at.2
+line_covers xs rva line at = grind (arith, covers_by)

@@ -1,5 +1,5 @@
 -- The lines of a module, as loops over rows, blocks and subsections write them to a room.
-use Rattle.std.proofs.Common.{◌≡◌, ℕ, suc, ◌+◌, ◌^◌, ◌<◌, true, ltb, List, [], ◌∷◌, ◌++◌, length, take, set, Option, Some, None, Result, Ok, Err, refl, ap, sym, subst, ◌∙◌, arith, append_assoc, length-append, inl, inr}
+use Rattle.std.proofs.Common.{◌≡◌, ℕ, suc, ◌+◌, ◌^◌, ◌<◌, true, ltb, List, [], ◌∷◌, ◌++◌, length, set, Option, Some, None, Result, Ok, Err, refl, ap, sym, subst, ◌∙◌, arith, append_assoc, length-append, rules}
 use Rattle.std.proofs.lemmas.Bool.{cases_lt}
 use Rattle.std.proofs.lemmas.Bool.Decides.{nat_tests}
 use Rattle.std.proofs.lemmas.List.{append-nil, set_past, take-append-le, take_all, take_more_set}
@@ -39,38 +39,9 @@ writes_nothing count room xs has = subst (λ (l : List CodeLine). HasEntries l c
 pub writes_none : (line : Option CodeLine) (count : ℕ) (room : List LineEntry) → line ≡ None → Writes (option_to_list line) count room count room
 writes_none line count room is = subst (λ (o : Option CodeLine). Writes (option_to_list o) count room count room) (sym is) (writes_nothing count room)
 
-pub writes_one : (line : CodeLine) (count : ℕ) (room : List LineEntry) → Writes (line ∷ []) count room (count + 1) (set room count (record { line = line; index = count }))
-writes_one line count room xs has =
-    let e : LineEntry = record { line = line; index = count } in
-    let before = has.written in
-    let number : count ≡ length xs = has.counted in
-    let own : length (xs ++ line ∷ []) ≡ length xs + 1 = length-append xs (line ∷ []) in
-    let all : length (entries_from 0 xs) ≡ length xs = length_entries 0 xs in
-    let more : entries_from 0 (xs ++ line ∷ []) ≡ entries_from 0 xs ++ e ∷ [] = entries_joined 0 xs line ∙ ap (λ (k : ℕ). entries_from 0 xs ++ entry line k ∷ []) (let same : 0 + length xs ≡ count = omega (arith, number) in same) in
-    let size : length (entries_from 0 xs ++ e ∷ []) ≡ length xs + 1 = length-append (entries_from 0 xs) (e ∷ []) ∙ ap (λ (k : ℕ). k + 1) all in
-    record {
-      counted = omega (arith, number, own);
-      written = elim (cases_lt count (length room)) [
-        | inl lt ↦
-            let len : length (set room count e) ≡ length room = length-set room count e in
-            let sofar : take count room ≡ entries_from 0 xs = before ∙ take_all (length room) (entries_from 0 xs) (omega (arith, lt, all, number)) in
-            take_more_set room count e lt ∙ ap (λ (l : List LineEntry). l ++ e ∷ []) sofar ∙ sym more
-            ∙ sym (take_all (length (set room count e)) (entries_from 0 (xs ++ line ∷ [])) (let s = ap length more in omega (arith, len, size, lt, number, s)))
-        | inr ge ↦
-            let kept : set room count e ≡ room = set_past room count e ge in
-            ap (λ (l : List LineEntry). take (count + 1) l) kept
-            ∙ take_all (count + 1) room (omega (arith, ge))
-            ∙ sym (take_all count room ge) ∙ before
-            ∙ sym (take-append-le (length room) (entries_from 0 xs) (e ∷ []) (omega (arith, ge, number, all)))
-            ∙ ap (λ (l : List LineEntry). take (length room) l) (sym more)
-            ∙ ap (λ (l : List LineEntry). take (length l) (entries_from 0 (xs ++ line ∷ []))) (sym kept)
-      ];
-    }
-
 pub writes_some : (o : Option CodeLine) (line : CodeLine) (count : ℕ) (room after : List LineEntry) → o ≡ Some line → after ≡ set room count (entry line count) → Writes (option_to_list o) count room (count + 1) after
-writes_some o line count room after is made xs has =
-    let all = writes_one line count room xs has in
-    subst (λ (o : Option CodeLine). HasEntries (xs ++ option_to_list o) (count + 1) after) (sym is) (subst (λ (l : List LineEntry). HasEntries (xs ++ line ∷ []) (count + 1) l) (sym made) all)
+writes_some o line count room after is made =
+    grind (arith, length-append, length_entries, entries_joined, cases_lt, length-set, take_all, take_more_set, set_past, take-append-le)
 
 -- a room without entries
 pub no_entries : (room : List LineEntry) → HasEntries [] 0 room
@@ -78,8 +49,7 @@ unfolding entries_from
 no_entries room = record { counted = refl; written = sym (take_all (length room) [] (omega arith)) }
 
 pub writes_both : (ys zs : List CodeLine) (count n m : ℕ) (room next after : List LineEntry) → Writes ys count room n next → Writes zs n next m after → Writes (ys ++ zs) count room m after
-writes_both ys zs count n m room next after one other xs has =
-    subst (λ (l : List CodeLine). HasEntries l m after) (append_assoc xs ys zs) (other (xs ++ ys) (one xs has))
+writes_both ys zs count n m room next after one other = grind (arith, append_assoc)
 
 -- ---- rows of a block
 
@@ -94,8 +64,7 @@ lines_next c b n =
 
 pub rows_written : (c : LineCode) (b : BlockView) (i count n m : ℕ) (room next after : List LineEntry) → Writes (block_lines c b i) count room n next →
     Writes (option_to_list (code_line c b i)) n next m after → Writes (block_lines c b (i + 1)) count room m after
-rows_written c b i count n m room next after sofar one =
-    subst (λ (l : List CodeLine). Writes l count room m after) (sym (lines_next c b i)) (writes_both (block_lines c b i) (option_to_list (code_line c b i)) count n m room next after sofar one)
+rows_written c b i count n m room next after sofar one = search (rules, arith, lines_next, writes_both)
 
 pub rows_none : (c : LineCode) (b : BlockView) (count : ℕ) (room : List LineEntry) → Writes (block_lines c b 0) count room count room
 rows_none c b count room = subst (λ (l : List CodeLine). Writes l count room count room) (sym (lines_none c b)) (writes_nothing count room)
@@ -108,21 +77,12 @@ pub record Gathers {X : Type 0} (f : X → Result (List CodeLine) PdbRefusal) (w
   pub holds : P sofar
   pub more : gathered f whole ≡ with_rest sofar (gathered f left)
 
-with_none : (r : Result (List CodeLine) PdbRefusal) → with_rest [] r ≡ r
-with_none (Ok xs) = refl
-with_none (Err r) = refl
-
 with_joined : (xs ys : List CodeLine) (r : Result (List CodeLine) PdbRefusal) → with_rest xs (with_rest ys r) ≡ with_rest (xs ++ ys) r
-with_joined xs ys (Ok zs) = ap (λ (l : List CodeLine). Ok l) (sym (append_assoc xs ys zs))
-with_joined xs ys (Err r) = refl
+with_joined xs ys r = grind (arith, append_assoc)
 
 gathered_none : {X : Type 0} (f : X → Result (List CodeLine) PdbRefusal) → gathered f [] ≡ Ok []
 unfolding gathered
 gathered_none f = refl
-
-gathered_more : {X : Type 0} (f : X → Result (List CodeLine) PdbRefusal) (x : X) (more : List (Result X PdbRefusal)) (ys : List CodeLine) → f x ≡ Ok ys → gathered f (Ok x ∷ more) ≡ with_rest ys (gathered f more)
-unfolding gathered
-gathered_more f x more ys is = rw is
 
 gathered_refused : {X : Type 0} (f : X → Result (List CodeLine) PdbRefusal) (x : X) (more : List (Result X PdbRefusal)) (r : PdbRefusal) → f x ≡ Err r → gathered f (Ok x ∷ more) ≡ Err r
 unfolding gathered
@@ -133,35 +93,32 @@ unfolding gathered
 gathered_error f more r = refl
 
 pub gathers_none : {X : Type 0} (f : X → Result (List CodeLine) PdbRefusal) (whole : List (Result X PdbRefusal)) (P : List CodeLine → Type 0) → P [] → Gathers f whole whole P
-gathers_none f whole P none = record { sofar = []; holds = none; more = sym (with_none (gathered f whole)) }
+gathers_none f whole P none = grind arith
 
 pub gathers_more : {X : Type 0} (f : X → Result (List CodeLine) PdbRefusal) (whole left rest : List (Result X PdbRefusal)) (x : X) (ys : List CodeLine) (P Q : List CodeLine → Type 0) →
     Gathers f whole left P → left ≡ Ok x ∷ rest → f x ≡ Ok ys → ((xs : List CodeLine) → P xs → Q (xs ++ ys)) → Gathers f whole rest Q
+unfolding gathered
 gathers_more {X} f whole left rest x ys P Q so is lines next = record {
   sofar = so.sofar ++ ys;
   holds = next so.sofar so.holds;
   more = so.more ∙ ap (λ (l : List (Result X PdbRefusal)). with_rest so.sofar (gathered f l)) is
-      ∙ ap (λ (r : Result (List CodeLine) PdbRefusal). with_rest so.sofar r) (gathered_more f x rest ys lines) ∙ with_joined so.sofar ys (gathered f rest);
+      ∙ ap (λ (r : Result (List CodeLine) PdbRefusal). with_rest so.sofar r) (rw lines) ∙ with_joined so.sofar ys (gathered f rest);
 }
 
 -- an item that is refused
 pub gathers_error : {X : Type 0} (f : X → Result (List CodeLine) PdbRefusal) (whole left : List (Result X PdbRefusal)) (r : PdbRefusal) (P : List CodeLine → Type 0) →
     Gathers f whole left P → left ≡ Err r ∷ [] → gathered f whole ≡ Err r
-gathers_error {X} f whole left r P so is =
-    so.more ∙ ap (λ (l : List (Result X PdbRefusal)). with_rest so.sofar (gathered f l)) is ∙ ap (λ (e : Result (List CodeLine) PdbRefusal). with_rest so.sofar e) (gathered_error f [] r)
+gathers_error f whole left r P so is = grind (arith, gathered_error)
 
 -- an item whose lines are refused
 pub gathers_refused : {X : Type 0} (f : X → Result (List CodeLine) PdbRefusal) (whole left rest : List (Result X PdbRefusal)) (x : X) (r : PdbRefusal) (P : List CodeLine → Type 0) →
     Gathers f whole left P → left ≡ Ok x ∷ rest → f x ≡ Err r → gathered f whole ≡ Err r
-gathers_refused {X} f whole left rest x r P so is refused =
-    so.more ∙ ap (λ (l : List (Result X PdbRefusal)). with_rest so.sofar (gathered f l)) is ∙ ap (λ (e : Result (List CodeLine) PdbRefusal). with_rest so.sofar e) (gathered_refused f x rest r refused)
+gathers_refused {X} f whole left rest x r P so is refused = grind (arith, so.more, is, gathered_refused f x rest r refused)
 
 -- no more items
 pub gathers_all : {X : Type 0} (f : X → Result (List CodeLine) PdbRefusal) (whole left : List (Result X PdbRefusal)) (P : List CodeLine → Type 0) →
     (so : Gathers f whole left P) → left ≡ [] → gathered f whole ≡ Ok so.sofar
-gathers_all {X} f whole left P so is =
-    so.more ∙ ap (λ (l : List (Result X PdbRefusal)). with_rest so.sofar (gathered f l)) is ∙ ap (λ (e : Result (List CodeLine) PdbRefusal). with_rest so.sofar e) (gathered_none f)
-    ∙ ap (λ (l : List CodeLine). Ok l) (append-nil so.sofar)
+gathers_all f whole left P so is = grind (arith, gathered_none, append-nil)
 
 pub lines_small : (sections b : List ℕ) → length b < 2 ^ 32 → module_lines sections b ≡ gathered (lines_of_subsection sections) (subsections b 0)
 lines_small sections b small = let t : ltb (length b) (2 ^ 32) ≡ true = grind (arith, nat_tests) in rw t

@@ -1,18 +1,16 @@
 -- Walks over subsections, and over blocks of lines.
-use Rattle.std.proofs.Common.{◌≡◌, ℕ, ◌+◌, ◌*◌, ◌<◌, ◌≤◌, Bool, true, false, List, [], ◌∷◌, length, Some, None, Ok, Err, ap, sym, ◌∙◌, arith}
+use Rattle.std.proofs.Common.{◌≡◌, ℕ, ◌+◌, ◌<◌, ◌≤◌, true, false, List, [], ◌∷◌, length, Some, None, Ok, Err, ap, ◌∙◌, arith}
 use Rattle.std.proofs.lemmas.Bool.Decides.{nat_tests}
 use Rattle.std.proofs.lemmas.Grind.{div_ceil_times}
-use Rattle.std.specs.Prelude.{◌==◌, nat_le}
-use Rattle.pe_core.specs.Bytes.{le, range, holds}
+use Rattle.std.specs.Prelude.{◌==◌}
 use Rattle.pe_pdb.specs.Lines.{BlockView, SubsectionView, block_at, block_end, blocks, first_of_kind, subsection_at, subsection_end, subsections}
-use Rattle.pe_pdb.specs.Refusals.{PdbRefusal, Short, RecordTruncated}
+use Rattle.pe_pdb.specs.Refusals.{PdbRefusal}
 use Rattle.pe_pdb.proofs.RecordWalks.{passed, second_passed}
 use Rattle.pe_pdb.proofs.Walked.{EndsLater, walk_more, walk_none, walk_refused}
 
 pub subsection_offset : (b : List ℕ) (p : ℕ) (s : SubsectionView) → subsection_at b p ≡ Ok s → s.offset ≡ p
 unfolding subsection_at
-subsection_offset b p s is =
-    sym (ap (λ (s : SubsectionView). s.offset) (passed ((holds b p 8, Short) ∷ (holds b (p + 8) (le b (p + 4) 4), RecordTruncated) ∷ []) (record { offset = p; kind = le b p 4; content = range b (p + 8) (le b (p + 4) 4) }) s is))
+subsection_offset b p s is = grind (arith, passed)
 
 pub subsection_ends : (s : SubsectionView) → s.offset < subsection_end s
 subsection_ends s = let times = div_ceil_times (s.offset + 8 + length s.content) 4 (omega arith) in omega (arith, times)
@@ -52,14 +50,7 @@ kind_refused k b p r before is = ap (first_of_kind k) (subsections_refused b p r
 
 pub block_is : (b : List ℕ) (p : ℕ) (s : BlockView) → block_at b p ≡ Ok s → (s.offset ≡ p) × (12 ≤ s.size)
 unfolding block_at
-block_is b p s is =
-    let tests : List (Bool × PdbRefusal) = (nat_le (12 + 8 * le b (p + 4) 4) (le b (p + 8) 4), RecordTruncated) ∷ (holds b p (le b (p + 8) 4), RecordTruncated) ∷ [] in
-    let value : BlockView = record { offset = p; file = le b p 4; size = le b (p + 8) 4; rows = range b (p + 12) (8 * le b (p + 4) 4) } in
-    let same = passed ((holds b p 12, Short) ∷ tests) value s is in
-    let fits : nat_le (12 + 8 * le b (p + 4) 4) (le b (p + 8) 4) ≡ true = second_passed (holds b p 12) (nat_le (12 + 8 * le b (p + 4) 4) (le b (p + 8) 4)) Short RecordTruncated ((holds b p (le b (p + 8) 4), RecordTruncated) ∷ []) value s is in
-    let size : le b (p + 8) 4 ≡ s.size = ap (λ (s : BlockView). s.size) same in
-    let large : 12 ≤ le b (p + 8) 4 = grind (arith, nat_tests) in
-    (sym (ap (λ (s : BlockView). s.offset) same), omega (arith, size, large))
+block_is b p s is = grind (arith, passed, second_passed, nat_tests)
 
 pub blocks_later : (b : List ℕ) → EndsLater block_end (block_at b)
 blocks_later b p s is = let at = block_is b p s is in omega (arith, at.0, at.1)

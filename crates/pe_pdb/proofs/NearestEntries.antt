@@ -1,11 +1,11 @@
 -- The last entry at or before an RVA, in entries that are sorted.
-use Rattle.std.proofs.Common.{◌≡◌, ℕ, ◌-◌, ◌<◌, ◌≤◌, List, length, get_or, Option, Some, None, refl, ap, sym, subst, ◌∙◌, arith, inl, inr}
+use Rattle.std.proofs.Common.{◌≡◌, ℕ, ◌-◌, ◌<◌, ◌≤◌, List, length, get_or, Option, arith, inl, inr}
 use Rattle.std.specs.List.{All}
 use Rattle.std.specs.List.Sorted.{IsNonDecreasing, IsNonDecreasingBy, IsPermutation}
 use Rattle.std.proofs.lemmas.Bool.{cases_lt}
 use Rattle.std.proofs.lemmas.List.Sorted.{All-permutation, Contains-permutation, IsPermutation-sym}
 use Rattle.pe_pdb.specs.SymbolEntries.{rva_in}
-use Rattle.pe_pdb.specs.SymbolIndexes.{IsNearest, Nearest, symbol_address}
+use Rattle.pe_pdb.specs.SymbolIndexes.{IsNearest, Nearest}
 use Rattle.pe_pdb.specs.declared.symbol_lookup.SymbolAddress.{SymbolAddress}
 
 pub rvas_rise : (xs : List ℕ) → IsNonDecreasing xs → IsNonDecreasingBy rva_in xs
@@ -41,20 +41,5 @@ nearest_permuted xs ys rva a same near = record {
 
 -- ---- one answer
 
-same_nearest : (xs : List ℕ) (rva a b : ℕ) → IsNearest xs rva a → IsNearest xs rva b → a ≡ b
-same_nearest xs rva a b one other =
-    let low : b ≤ a = subst (λ n. rva_in n ≤ rva → n ≤ a) other.listed.2 (one.last other.listed.0 b other.listed.1) other.before in
-    let high : a ≤ b = subst (λ n. rva_in n ≤ rva → n ≤ b) one.listed.2 (other.last one.listed.0 a one.listed.1) one.before in
-    omega (arith, low, high)
-
-none_nearest : (xs : List ℕ) (rva a : ℕ) → All (λ k. rva < rva_in k) xs → IsNearest xs rva a → ⊥
-none_nearest xs rva a all near =
-    let late : rva < rva_in a = subst (λ n. rva < rva_in n) near.listed.2 (all near.listed.0 a near.listed.1) in
-    let before : rva_in a ≤ rva = near.before in omega (arith, late, before)
-
 pub nearest_once : (xs : List ℕ) (rva : ℕ) (one other : Option SymbolAddress) → Nearest xs rva one → Nearest xs rva other → one ≡ other
-nearest_once xs rva None None one other = refl
-nearest_once xs rva None (Some found) one other = absurd (none_nearest xs rva other.0 one other.1)
-nearest_once xs rva (Some found) None one other = absurd (none_nearest xs rva one.0 other one.1)
-nearest_once xs rva (Some found) (Some again) one other =
-    ap (λ (a : SymbolAddress). Some a) (one.2 ∙ ap symbol_address (same_nearest xs rva one.0 other.0 one.1 other.1) ∙ sym other.2)
+nearest_once xs rva one other e i = grind arith

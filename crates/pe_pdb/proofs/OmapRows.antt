@@ -1,5 +1,5 @@
 -- A lookup by halves in an OMAP table finds the row that reading the table from its start finds.
-use Rattle.std.proofs.Common.{◌≡◌, ℕ, ◌+◌, ◌-◌, ◌*◌, ◌/◌, ◌^◌, ◌<◌, ◌≤◌, Bool, true, false, List, length, get_or, filter, Option, Some, None, leb, refl, ap, sym, ◌∙◌, arith, inl, inr}
+use Rattle.std.proofs.Common.{◌≡◌, ℕ, ◌+◌, ◌-◌, ◌*◌, ◌/◌, ◌^◌, ◌<◌, ◌≤◌, Bool, false, List, length, get_or, filter, Option, Some, None, leb, refl, ap, sym, ◌∙◌, arith}
 use Rattle.std.specs.Option.{SomeIff, option_and_then}
 use Rattle.std.specs.List.Sorted.{IsNonDecreasingBy}
 use Rattle.std.proofs.lemmas.Bool.Decides.{nat_tests}
@@ -18,18 +18,6 @@ none_passes key p xs None g fails = refl
 none_passes key p xs (Some x) g fails =
     let f = fails g.0 x g.1.listed in let e = ap p (g.1.is x) in let t = g.1.passes in absurd (cc (f, e, t))
 
-last_passes : {X : Type 0} (key : X → ℕ) (p : X → Bool) (xs : List X) (o : Option X) (i : ℕ) (x : X) → Greatest key p xs o → i < length xs → ((d : X) → get_or xs i d ≡ x) → p x ≡ true → ((k : ℕ) (d : X) → k < length xs → p (get_or xs k d) ≡ true → k ≤ i) → ((k : ℕ) (d : X) → k ≤ i → key (get_or xs k d) ≤ key x) → o ≡ Some x
-last_passes key p xs None i x g inside is t far up =
-    let f = g i x inside in let e = ap p (is x) in absurd (cc (f, e, t))
-last_passes key p xs (Some y) i x g inside is t far up =
-    let low : g.0 ≤ i = far g.0 y g.1.listed (ap p (g.1.is y) ∙ g.1.passes) in
-    let less : key (get_or xs i x) ≤ key y = g.1.last i x inside (ap p (is x) ∙ t) in
-    let more : key (get_or xs g.0 y) ≤ key x = up g.0 y low in
-    let same : key (get_or xs i x) ≡ key y = omega (arith, less, more, ap key (is x), ap key (g.1.is y)) in
-    let high : i ≤ g.0 = g.1.latest i x inside (ap p (is x) ∙ t) same in
-    let at : g.0 ≡ i = omega (arith, low, high) in
-    ap (λ (z : _). Some z) (sym (g.1.is x) ∙ ap (λ (k : ℕ). get_or xs k x) at ∙ is x)
-
 -- ---- rows
 
 abbrev pub rva_of_row : OmapRow → ℕ
@@ -43,25 +31,11 @@ count_of_rows b = count_of_whole_entries omap_row 8 b
 
 -- all start after the RVA
 pub no_row : (b : List ℕ) (rva n : ℕ) → IsNonDecreasingBy (λ x. x.rva) (omap b) → IsCut (λ x. x.rva) (omap b) rva n n → n ≡ 0 → greatest (λ x. x.rva) (filter (λ x. leb x.rva rva) (omap b)) ≡ None
-no_row b rva n up cut none =
-    none_passes (λ x. x.rva) (λ x. leb x.rva rva) (omap b) _ (greatest_of (λ x. x.rva) (λ x. leb x.rva rva) (omap b))
-    (λ k d lt. let late : rva < (get_or (omap b) k d).rva = cut.after up k d (omega (arith, none)) lt in grind (arith, nat_tests))
+no_row b rva n up cut none = grind (arith, none_passes, greatest_of, nat_tests)
 
 -- the first n start at or before it
 pub last_row : (b : List ℕ) (rva n : ℕ) (x : OmapRow) → IsNonDecreasingBy (λ x. x.rva) (omap b) → IsCut (λ x. x.rva) (omap b) rva n n → 0 < n → x ≡ omap_row b (8 * (n - 1)) → greatest (λ x. x.rva) (filter (λ x. leb x.rva rva) (omap b)) ≡ Some x
-last_row b rva n x up cut some is =
-    let within : n ≤ length (omap b) = cut.within in
-    let inside : n - 1 < length (omap b) = omega (arith, within, some) in
-    let here : (d : OmapRow) → get_or (omap b) (n - 1) d ≡ x = λ d. sym (row_in b (n - 1) x d (omega (arith, inside, count_of_rows b)) is) in
-    let early : (get_or (omap b) (n - 1) x).rva ≤ rva = cut.before up (n - 1) x (omega (arith, some)) in
-    let e : (get_or (omap b) (n - 1) x).rva ≡ x.rva = ap (λ (y : OmapRow). y.rva) (here x) in
-    last_passes (λ x. x.rva) (λ x. leb x.rva rva) (omap b) _ (n - 1) x (greatest_of (λ x. x.rva) (λ x. leb x.rva rva) (omap b)) inside here
-    (grind (arith, nat_tests, early, e))
-    (λ k d lt t. elim (cases_lt k n) [
-      | inl low ↦ omega (arith, low)
-      | inr high ↦ let late : rva < (get_or (omap b) k d).rva = cut.after up k d high lt in absurd (grind (arith, nat_tests))
-    ])
-    (λ k d le. let below = up k (n - 1) d le inside in let f = ap (λ (y : OmapRow). y.rva) (here d) in omega (arith, below, f))
+last_row b rva n x up cut some is = grind (arith, row_in, count_of_rows, greatest_of, nat_tests, cases_lt)
 
 -- ---- where a row leads to
 

@@ -1,5 +1,5 @@
 -- The starts of records.
-use Rattle.std.proofs.Common.{◌≡◌, ℕ, zero, suc, ◌+◌, ◌-◌, ◌<◌, ◌≤◌, true, leb, List, drop, length, get_or, slice_set, Ok, Err, refl, ap, sym, ◌∙◌, arith, below_more}
+use Rattle.std.proofs.Common.{◌≡◌, ℕ, zero, suc, ◌+◌, ◌-◌, ◌<◌, ◌≤◌, true, leb, List, drop, length, slice_set, Ok, Err, refl, ap, sym, ◌∙◌, arith}
 use Rattle.std.proofs.lemmas.Bool.Decides.{nat_tests}
 use Rattle.std.proofs.lemmas.List.{drop-drop, drop-set-lt, get_or-set_same, get_or-set_other}
 use Rattle.pe_core.specs.Refusals.{◌>>=◌}
@@ -29,10 +29,7 @@ refused_later b k (suc d) r is =
 
 -- one more start is written
 pub one_more_start : (b room : List ℕ) (i p : ℕ) → i < length room → start_of b i ≡ Ok p → AreStarts b room i → AreStarts b (slice_set room i p) (i + 1)
-one_more_start b room i p lt is before k d low =
-    below_more (λ k. start_of b k ≡ Ok (get_or (slice_set room i p) k d)) i
-    (λ k h. before k d h ∙ ap (λ (n : ℕ). Ok n) (sym (get_or-set_other room i k p d (λ e. omega (arith, h, e)))))
-    (is ∙ ap (λ (n : ℕ). Ok n) (sym (get_or-set_same room i p d lt))) k low
+one_more_start b room i p lt is before = grind (arith, get_or-set_other, get_or-set_same)
 
 -- ---- without a room
 
@@ -54,8 +51,7 @@ pub starts_all : (n : ℕ) (t : TypesView) (p count : ℕ) → count_of t ≤ n 
 starts_all n t p count fits number is = starts_fit n t fits ∙ rw is (ap (λ (m : ℕ). Ok m) (sym number))
 
 pub starts_refused : (n : ℕ) (t : TypesView) (k p : ℕ) (r : PdbRefusal) → count_of t ≤ n → k < count_of t → start_of t.records k ≡ Ok p → symbol_at t.records p ≡ Err r → starts_in n t ≡ Err r
-starts_refused n t k p r fits lt at is =
-    starts_fit n t fits ∙ count_refused t k p r lt at is
+starts_refused n t k p r fits lt at is = grind (arith, starts_fit n t fits, count_refused t k p r lt at is)
 
 pub rest_left : (old now : List ℕ) (i y : ℕ) → drop i now ≡ drop i old → drop (i + 1) (slice_set now i y) ≡ drop (i + 1) old
 rest_left old now i y others =

@@ -1,12 +1,11 @@
 -- Walks over symbol records and over modules.
-use Rattle.std.proofs.Common.{◌≡◌, ℕ, ◌+◌, ◌-◌, ◌<◌, ◌≤◌, Bool, true, false, List, [], ◌∷◌, length, Result, Ok, Err, ap, refl, sym, arith}
+use Rattle.std.proofs.Common.{◌≡◌, ℕ, ◌+◌, ◌<◌, ◌≤◌, Bool, true, false, List, [], ◌∷◌, length, Result, Ok, Err, arith}
 use Rattle.std.proofs.lemmas.Bool.Decides.{nat_tests}
 use Rattle.std.proofs.lemmas.Grind.{div_ceil_times}
-use Rattle.std.specs.Prelude.{nat_le}
-use Rattle.pe_core.specs.Bytes.{le, range, holds}
+use Rattle.pe_core.specs.Bytes.{holds}
 use Rattle.pe_core.specs.Refusals.{outcome, ◌>>=◌}
-use Rattle.pe_pdb.specs.Modules.{ModuleView, module_at, module_end, module_record, modules, name_at}
-use Rattle.pe_pdb.specs.Refusals.{PdbRefusal, Short, RecordSize, RecordTruncated}
+use Rattle.pe_pdb.specs.Modules.{ModuleView, module_at, module_end, modules}
+use Rattle.pe_pdb.specs.Refusals.{PdbRefusal}
 use Rattle.pe_pdb.specs.Symbols.{Symbol, symbol_at, symbol_end, symbols}
 use Rattle.pe_pdb.proofs.Walked.{EndsLater, HasWidth, walk_more, walk_none, walk_refused}
 
@@ -18,18 +17,15 @@ passed ((false, r) ∷ tests) v y is = absurd (cc is)
 
 -- both of two steps that succeed
 pub both : {A B : Type 0} (r : Result A PdbRefusal) (f : A → Result B PdbRefusal) (y : B) → (r >>= f) ≡ Ok y → (x : A) × (r ≡ Ok x) × (f x ≡ Ok y)
-both (Ok x) f y is = (x, refl, is)
-both (Err r) f y is = absurd (cc is)
+both r f y is = grind arith
 
 -- the first of tests that pass
 pub first_passed : {Y : Type 0} (test : Bool) (r : PdbRefusal) (tests : List (Bool × PdbRefusal)) (v y : Y) → outcome ((test, r) ∷ tests) v ≡ Ok y → test ≡ true
-first_passed true r tests v y is = refl
-first_passed false r tests v y is = absurd (cc is)
+first_passed test r tests v y is = grind arith
 
 -- and the second
 pub second_passed : {Y : Type 0} (first test : Bool) (q r : PdbRefusal) (tests : List (Bool × PdbRefusal)) (v y : Y) → outcome ((first, q) ∷ (test, r) ∷ tests) v ≡ Ok y → test ≡ true
-second_passed true test q r tests v y is = first_passed test r tests v y is
-second_passed false test q r tests v y is = absurd (cc is)
+second_passed first test q r tests v y is = grind (arith, first_passed)
 
 held : (b : List ℕ) (p n : ℕ) → holds b p n ≡ true → p + n ≤ length b
 held b p n is = grind (arith, nat_tests)
@@ -38,13 +34,11 @@ held b p n is = grind (arith, nat_tests)
 
 pub symbol_offset : (b : List ℕ) (p : ℕ) (s : Symbol) → symbol_at b p ≡ Ok s → s.offset ≡ p
 unfolding symbol_at
-symbol_offset b p s is =
-    sym (ap (λ (s : Symbol). s.offset) (passed ((holds b p 4, Short) ∷ (nat_le 2 (le b p 2), RecordSize) ∷ (holds b p (2 + le b p 2), RecordTruncated) ∷ []) (record { offset = p; kind = le b (p + 2) 2; content = range b (p + 4) (le b p 2 - 2) }) s is))
+symbol_offset b p s is = grind (arith, passed)
 
 symbol_held : (b : List ℕ) (p : ℕ) (s : Symbol) → symbol_at b p ≡ Ok s → p + 4 ≤ length b
 unfolding symbol_at
-symbol_held b p s is =
-    held b p 4 (first_passed (holds b p 4) Short ((nat_le 2 (le b p 2), RecordSize) ∷ (holds b p (2 + le b p 2), RecordTruncated) ∷ []) (record { offset = p; kind = le b (p + 2) 2; content = range b (p + 4) (le b p 2 - 2) }) s is)
+symbol_held b p s is = grind (arith, held, first_passed)
 
 pub symbols_wide : (b : List ℕ) → HasWidth 4 (length b) symbol_end (symbol_at b)
 symbols_wide b p s is = let at = symbol_offset b p s is in let held = symbol_held b p s is in (omega (arith, at), held)
@@ -65,22 +59,14 @@ symbols_refused b p r before is = walk_refused symbol_end (symbol_at b) (symbols
 
 module_offset : (b : List ℕ) (p : ℕ) (m : ModuleView) → module_at b p ≡ Ok m → m.offset ≡ p
 unfolding module_at
-module_offset b p m is =
-    let one = both (outcome ((holds b p 64, Short) ∷ []) b) (λ start. name_at b (p + 64) >>= λ name. name_at b (p + 64 + length name + 1) >>= λ file. Ok (record { offset = p; header = module_record b p; name = name; file = file })) m is in
-    let two = both (name_at b (p + 64)) (λ name. name_at b (p + 64 + length name + 1) >>= λ file. Ok (record { offset = p; header = module_record b p; name = name; file = file })) m one.2 in
-    let three = both (name_at b (p + 64 + length two.0 + 1)) (λ file. Ok (record { offset = p; header = module_record b p; name = two.0; file = file })) m two.2 in
-    cc three.2
+module_offset b p m is = grind (arith, both)
 
 module_held : (b : List ℕ) (p : ℕ) (m : ModuleView) → module_at b p ≡ Ok m → p + 64 ≤ length b
 unfolding module_at
-module_held b p m is =
-    let one = both (outcome ((holds b p 64, Short) ∷ []) b) (λ start. name_at b (p + 64) >>= λ name. name_at b (p + 64 + length name + 1) >>= λ file. Ok (record { offset = p; header = module_record b p; name = name; file = file })) m is in
-    held b p 64 (first_passed (holds b p 64) Short [] b one.0 one.1)
+module_held b p m is = grind (arith, both, held, first_passed)
 
 module_ends : (m : ModuleView) → m.offset + 64 ≤ module_end m
-module_ends m =
-    let n : ℕ = m.offset + 64 + length m.name + length m.file + 2 in
-    let times = div_ceil_times n 4 (omega arith) in omega (arith, times)
+module_ends m = grind (arith, div_ceil_times)
 
 pub modules_later : (b : List ℕ) → EndsLater module_end (module_at b)
 modules_later b p m is = let at = module_offset b p m is in let after = module_ends m in omega (arith, at, after)

@@ -1,11 +1,10 @@
 -- Lists that are read from their start, where what is found so far is kept.
-use Rattle.std.proofs.Common.{◌≡◌, ℕ, zero, suc, ◌+◌, ◌-◌, ◌*◌, ◌^◌, ◌<◌, ◌≤◌, ◌⊎◌, Bool, true, false, List, [], ◌∷◌, ◌++◌, filter, min, Option, Some, None, refl, ap, sym, subst, ◌∙◌, arith, append_assoc, leb, ltb, inl, inr}
+use Rattle.std.proofs.Common.{◌≡◌, ℕ, zero, suc, ◌+◌, ◌-◌, ◌*◌, ◌^◌, ◌<◌, ◌≤◌, ◌⊎◌, Bool, true, false, List, [], ◌∷◌, ◌++◌, filter, min, Option, Some, None, refl, ap, sym, subst, ◌∙◌, arith, append_assoc, leb, ltb, inl, inr, rules}
 use Rattle.std.proofs.lemmas.Bool.{cases_lt}
 use Rattle.std.proofs.lemmas.Bool.Decides.{nat_tests}
 use Rattle.std.proofs.lemmas.List.{append-nil}
 use Rattle.std.proofs.lemmas.List.Elements.{filter-append}
 use Rattle.std.specs.Option.{option_map, option_to_list}
-use Rattle.std.specs.Prelude.{◌&&◌, if◌then◌else◌}
 use Rattle.pe_pdb.specs.Frames.{address_before, greatest, later, row_before}
 use Rattle.pe_pdb.specs.LineEntries.{LineCode, block_lines, code_line, column_of}
 use Rattle.pe_pdb.specs.Lines.{BlockView, line_row}
@@ -21,29 +20,13 @@ abbrev joined : {X : Type 0} → (X → ℕ) → Option X → X → Option X
 joined key None x = Some x
 joined key (Some y) x = later key y (Some x)
 
-later_three : {X : Type 0} (key : X → ℕ) (y z x : X) (a b : Bool) → leb (key y) (key z) ≡ a → leb (key z) (key x) ≡ b →
-    later key y (if b then Some x else Some z) ≡ joined key (if a then Some z else Some y) x
-later_three key y z x true true low high = let t : leb (key y) (key x) ≡ true = grind (arith, nat_tests) in rw t (rw high)
-later_three key y z x true false low high = rw low (rw high)
-later_three key y z x false true low high = refl
-later_three key y z x false false low high = let t : leb (key y) (key x) ≡ false = grind (arith, nat_tests) in rw t (rw low)
-
 later_joined : {X : Type 0} (key : X → ℕ) (y : X) (o : Option X) (x : X) → later key y (joined key o x) ≡ joined key (later key y o) x
-later_joined key y None x = refl
-later_joined key y (Some z) x = later_three key y z x (leb (key y) (key z)) (leb (key z) (key x)) refl refl
+later_joined key y o x = grind (arith, nat_tests)
 
 greatest_next : {X : Type 0} (key : X → ℕ) (xs : List X) (x : X) → greatest key (xs ++ x ∷ []) ≡ joined key (greatest key xs) x
 unfolding greatest
 greatest_next key [] x = refl
 greatest_next key (y ∷ xs) x = ap (later key y) (greatest_next key xs x) ∙ later_joined key y (greatest key xs) x
-
-before_kept : {X : Type 0} (key : X → ℕ) (p : X → Bool) (xs : List X) (x : X) → p x ≡ false → greatest key (filter p (xs ++ x ∷ [])) ≡ greatest key (filter p xs)
-before_kept key p xs x fails =
-    let same : filter p (xs ++ x ∷ []) ≡ filter p xs = filter-append p xs (x ∷ []) ∙ rw fails (append-nil (filter p xs)) in ap (greatest key) same
-
-before_next : {X : Type 0} (key : X → ℕ) (p : X → Bool) (xs : List X) (x : X) → p x ≡ true → greatest key (filter p (xs ++ x ∷ [])) ≡ joined key (greatest key (filter p xs)) x
-before_next key p xs x passes =
-    let same : filter p (xs ++ x ∷ []) ≡ filter p xs ++ x ∷ [] = filter-append p xs (x ∷ []) ∙ rw passes in ap (greatest key) same ∙ greatest_next key (filter p xs) x
 
 -- ---- no items
 
@@ -64,30 +47,26 @@ pub finds_both : {X Y : Type 0} (find : List X → Option Y) (ys zs : List X) (o
 finds_both find ys zs old between new one other xs is = other (xs ++ ys) (one xs is) ∙ ap find (append_assoc xs ys zs)
 
 finds_kept : {X : Type 0} (key : X → ℕ) (p : X → Bool) (x : X) (old : Option X) → p x ≡ false → Finds (λ xs. greatest key (filter p xs)) (x ∷ []) old old
-finds_kept key p x old fails xs is = is ∙ sym (before_kept key p xs x fails)
+finds_kept key p x old fails = grind (arith, filter-append, append-nil)
 
 finds_next : {X : Type 0} (key : X → ℕ) (p : X → Bool) (x : X) (old : Option X) → p x ≡ true → Finds (λ xs. greatest key (filter p xs)) (x ∷ []) old (joined key old x)
-finds_next key p x old passes xs is = ap (λ o. joined key o x) is ∙ sym (before_next key p xs x passes)
+finds_next key p x old passes = grind (arith, filter-append, greatest_next)
 
 -- one that is no less than what was found, or less
 taken : {X : Type 0} (key : X → ℕ) (old : Option X) (x : X) → ((y : X) → old ≡ Some y → key y ≤ key x) → joined key old x ≡ Some x
-taken key None x no_less = refl
-taken key (Some y) x no_less = let le : key y ≤ key x = no_less y refl in let t : leb (key y) (key x) ≡ true = grind (arith, nat_tests) in rw t
+taken key old x no_less = grind (arith, nat_tests)
 
 left : {X : Type 0} (key : X → ℕ) (y x : X) → key x < key y → joined key (Some y) x ≡ Some y
 left key y x less = let t : leb (key y) (key x) ≡ false = grind (arith, nat_tests) in rw t
 
 -- ---- symbols
 
-address_rva : (s offset : ℕ) → offset < 2 ^ 32 → rva_in (address s offset) ≡ s
-address_rva s offset small = omega (arith, small)
-
 one_address : (rva offset s : ℕ) (start old new : Option ℕ) → start ≡ Some s → Finds (address_before rva) (address s offset ∷ []) old new →
     Finds (address_before rva) (option_to_list (option_map (λ x. address x offset) start)) old new
 one_address rva offset s start old new is finds = subst (λ (o : Option ℕ). Finds (address_before rva) (option_to_list (option_map (λ x. address x offset) o)) old new) (sym is) finds
 
 address_passes : (rva offset s : ℕ) → offset < 2 ^ 32 → s ≤ rva → leb (rva_in (address s offset)) rva ≡ true
-address_passes rva offset s small low = let at = address_rva s offset small in grind (arith, nat_tests)
+address_passes rva offset s small low = grind (arith, nat_tests)
 
 pub address_taken : (rva offset s : ℕ) (start found : Option ℕ) → start ≡ Some s → offset < 2 ^ 32 → s ≤ rva → ((y : ℕ) → found ≡ Some y → y ≤ address s offset) →
     Finds (address_before rva) (option_to_list (option_map (λ x. address x offset) start)) found (Some (address s offset))
@@ -118,22 +97,10 @@ best_of c b found (Some i) = code_line c b i
 abbrev pub IsEnd : LineCode → ℕ → ℕ → Type 0
 IsEnd c rva end = end ≡ min ((rva + 1) - c.rva) (c.header).size
 
-if_some : {X : Type 0} (t : Bool) (v x : X) → (if t then Some v else None) ≡ Some x → (t ≡ true) × (v ≡ x)
-if_some true v x is = (refl, cc is)
-if_some false v x is = absurd (cc is)
-
-first_true : (s t : Bool) → (s && t) ≡ true → s ≡ true
-first_true true t is = refl
-first_true false t is = is
-
 line_is : (c : LineCode) (b : BlockView) (i : ℕ) (x : CodeLine) → code_line c b i ≡ Some x →
     (x.rva ≡ c.rva + (line_row b.rows (8 * i)).offset) × ((line_row b.rows (8 * i)).offset < (c.header).size)
 unfolding code_line
-line_is c b i x is =
-    let o = (line_row b.rows (8 * i)).offset in
-    let found = if_some (ltb o (c.header).size && ltb (c.rva + o) (2 ^ 32)) _ x is in
-    let inside : ltb o (c.header).size ≡ true = first_true (ltb o (c.header).size) (ltb (c.rva + o) (2 ^ 32)) found.0 in
-    (sym (ap (λ (x : CodeLine). x.rva) found.1), grind (arith, nat_tests))
+line_is c b i x is = grind (arith, nat_tests)
 
 line_there : (c : LineCode) (b : BlockView) (i : ℕ) → (line_row b.rows (8 * i)).offset < (c.header).size → c.rva + (line_row b.rows (8 * i)).offset < 2 ^ 32 → (x : CodeLine) × (code_line c b i ≡ Some x)
 unfolding code_line
@@ -155,7 +122,6 @@ row_taken c b i rva least end old small ends from low high =
     let x = there.0 in
     let at = line_is c b i x there.1 in
     let start : x.rva ≡ c.rva + o = at.0 in
-    let before : x.rva ≤ rva = omega (arith, start, last, high) in
     let t : leb x.rva rva ≡ true = grind (arith, nat_tests) in
     let no_less : (y : CodeLine) → old ≡ Some y → y.rva ≤ x.rva = λ y is. let e : least ≡ y.rva - c.rva = from ∙ ap (least_of c.rva) is in omega (arith, e, low, start) in
     let finds = subst (λ (o : Option CodeLine). Finds (row_before rva) (x ∷ []) old o) (taken (λ (x : CodeLine). x.rva) old x no_less) (finds_next (λ (x : CodeLine). x.rva) (λ x. leb x.rva rva) x old t) in (
@@ -176,24 +142,10 @@ row_below x rva start (Some y) whole is less after = let l : x.rva - start < y.r
 row_past : (x : CodeLine) (rva : ℕ) (old : Option CodeLine) → rva < x.rva → Finds (row_before rva) (x ∷ []) old old
 row_past x rva old later = let t : leb x.rva rva ≡ false = grind (arith, nat_tests) in finds_kept (λ (x : CodeLine). x.rva) (λ x. leb x.rva rva) x old t
 
-row_skipped : (c : LineCode) (b : BlockView) (i rva least end : ℕ) (old : Option CodeLine) → IsEnd c rva end → least ≡ least_of c.rva old →
-    ((line_row b.rows (8 * i)).offset < least) ⊎ (end ≤ (line_row b.rows (8 * i)).offset) → (line : Option CodeLine) → code_line c b i ≡ line → Finds (row_before rva) (option_to_list line) old old
-row_skipped c b i rva least end old ends from which None is = finds_none (row_before rva) old
-row_skipped c b i rva least end old ends from which (Some x) is =
-    let o = (line_row b.rows (8 * i)).offset in
-    let at = line_is c b i x is in
-    let start : x.rva ≡ c.rva + o = at.0 in
-    let inside : o < (c.header).size = at.1 in
-    let last : end ≡ min ((rva + 1) - c.rva) (c.header).size = ends in
-    elim which [
-      | inl below ↦ row_below x rva c.rva old old refl (omega (arith, start, below, from)) (omega (arith, start))
-      | inr past ↦ row_past x rva old (omega (arith, start, past, last, inside))
-    ]
-
 -- any other row
 pub row_left : (c : LineCode) (b : BlockView) (i rva least end : ℕ) (old : Option CodeLine) → IsEnd c rva end → least ≡ least_of c.rva old →
     ((line_row b.rows (8 * i)).offset < least) ⊎ (end ≤ (line_row b.rows (8 * i)).offset) → Finds (row_before rva) (option_to_list (code_line c b i)) old old
-row_left c b i rva least end old ends from which = row_skipped c b i rva least end old ends from which (code_line c b i) refl
+row_left c b i rva least end old ends from which = search (rules, arith, finds_none, line_is, row_below, row_past)
 
 pub rows_next : (c : LineCode) (b : BlockView) (i rva : ℕ) (old between new : Option CodeLine) → Finds (row_before rva) (block_lines c b i) old between →
     Finds (row_before rva) (option_to_list (code_line c b i)) between new → Finds (row_before rva) (block_lines c b (i + 1)) old new

@@ -1,6 +1,6 @@
 -- The bytes of streams, block by block.
-use Rattle.std.proofs.Common.{◌≡◌, ℕ, zero, suc, ◌+◌, ◌-◌, ◌*◌, ◌/◌, ◌%◌, ◌<◌, ◌≤◌, ◌&&◌, ◌==◌, cond, true, false, refl, ap, subst, sym, ◌∙◌, arith, ⊎_elim, below_more, List, length, get_or}
-use Rattle.std.specs.Prelude.{nat_le, nat_lt, slice_index, take}
+use Rattle.std.proofs.Common.{◌≡◌, ℕ, zero, suc, ◌+◌, ◌-◌, ◌*◌, ◌/◌, ◌%◌, ◌<◌, ◌≤◌, ◌&&◌, ◌==◌, true, false, refl, ap, subst, sym, ◌∙◌, arith, below_more, List, length, get_or, rules}
+use Rattle.std.specs.Prelude.{slice_index, take}
 use Rattle.std.proofs.lemmas.Bool.{cases_lt}
 use Rattle.std.proofs.lemmas.Bool.Decides.{nat_tests}
 use Rattle.std.proofs.lemmas.List.{places, same_lists}
@@ -50,32 +50,11 @@ piece s o n some inside block file =
 pub copied_more : (b room new piece : List ℕ) (o done n : ℕ) → new ≡ splice room done (take n piece) → piece ≡ range b (o + done) (length piece) → n ≤ length piece → done + n ≤ length room → (o + done) + length piece ≤ length b → ((k : ℕ) → k < done → get_or room k 0 ≡ get_or b (o + k) 0)
     → (done + n ≤ length new) × ((k : ℕ) → k < done + n → get_or new k 0 ≡ get_or b (o + k) 0)
 copied_more b room new piece o done n is of few fits inside before =
-    let part : length (take n piece) ≡ n = grind (arith, places) in
-    let size : length (splice room done (take n piece)) ≡ length room = length-splice room done (take n piece) (omega (arith, part, fits)) in (
-      omega (arith, ap length is, size, fits),
-      λ k lt.
-          let here : get_or new k 0 ≡ cond (nat_le done k && nat_lt k (done + length (take n piece))) (get_or (take n piece) (k - done) 0) (get_or room k 0) = ap (λ (xs : List ℕ). get_or xs k 0) is ∙ get_or-splice room done (take n piece) k (omega (arith, part, fits)) in
-          ⊎_elim
-          (λ (l : k < done). let old = before k l in grind (arith, nat_tests))
-          (λ (g : done ≤ k).
-          let one : get_or (take n piece) (k - done) 0 ≡ get_or piece (k - done) 0 = grind (arith, places) in
-          let two : get_or piece (k - done) 0 ≡ get_or (range b (o + done) (length piece)) (k - done) 0 = ap (λ (xs : List ℕ). get_or xs (k - done) 0) of in
-          let three : get_or b ((o + done) + (k - done)) 0 ≡ get_or (range b (o + done) (length piece)) (k - done) 0 = byte_of_range b (o + done) (length piece) (k - done) (omega (arith, lt, g, few)) in
-          let at : (o + done) + (k - done) ≡ o + k = omega (arith, g) in
-          let four : get_or b ((o + done) + (k - done)) 0 ≡ get_or b (o + k) 0 = ap (λ (p : ℕ). get_or b p 0) at in
-          grind (arith, nat_tests))
-          (cases_lt k done),
-    )
+    grind (arith, piece, places, length-splice, get_or-splice, nat_tests, byte_of_range, cases_lt)
 
 -- a room that has the bytes of a range one by one has the range
 pub copied : (b room : List ℕ) (o n : ℕ) → length room ≡ n → o + n ≤ length b → ((k : ℕ) → k < n → get_or room k 0 ≡ get_or b (o + k) 0) → room ≡ range b o n
-copied b room o n len inside same =
-    let size : length (range b o n) ≡ n = length_range b o n inside in
-    same_lists _ _ (len ∙ sym size) (λ j d lt.
-    let low : j < n = omega (arith, lt, len) in
-    let one : get_or room j 0 ≡ get_or b (o + j) 0 = same j low in
-    let two : get_or b (o + j) 0 ≡ get_or (range b o n) j 0 = byte_of_range b o n j low in
-    grind (arith, places))
+copied b room o n len inside same = search (rules, arith, length_range, same_lists, byte_of_range, places)
 
 -- ---- blocks that follow one another
 

@@ -1,5 +1,5 @@
 -- The starts of the lists of blocks.
-use Rattle.std.proofs.Common.{◌≡◌, ℕ, suc, ◌+◌, ◌<◌, ◌++◌, List, length, drop, get_or, slice_set, refl, ap, sym, ◌∙◌, arith, below_more}
+use Rattle.std.proofs.Common.{◌≡◌, ℕ, suc, ◌+◌, ◌<◌, ◌++◌, List, length, drop, get_or, slice_set, refl, ap, ◌∙◌, arith}
 use Rattle.std.proofs.lemmas.List.{places, same_lists, get_or-set_same, get_or-set_other}
 use Rattle.pe_core.specs.Rows.{each}
 use Rattle.pe_core.proofs.EntryItems.{get_or-each, length-each}
@@ -16,18 +16,8 @@ start_next m i =
 
 -- one more number of a room is written
 pub one_more_start : (f : ℕ → ℕ) (room : List ℕ) (i x : ℕ) → i < length room → x ≡ f i → ((k : ℕ) → k < i → get_or room k 0 ≡ f k) → (k : ℕ) → k < i + 1 → get_or (slice_set room i x) k 0 ≡ f k
-one_more_start f room i x lt is before =
-    below_more (λ k. get_or (slice_set room i x) k 0 ≡ f k) i
-    (λ k h. get_or-set_other room i k x 0 (λ e. omega (arith, h, e)) ∙ before k h)
-    (get_or-set_same room i x 0 lt ∙ is)
+one_more_start f room i x lt is before k e = grind (arith, get_or-set_other, get_or-set_same)
 
 -- a room with numbers at its start
 pub room_of_starts : (f : ℕ → ℕ) (n : ℕ) (old starts rest : List ℕ) → length starts ≡ n → ((k : ℕ) → k < n → get_or starts k 0 ≡ f k) → rest ≡ drop n old → starts ++ rest ≡ each f n ++ drop n old
-room_of_starts f n old starts rest len same e =
-    let size : length (each f n) ≡ n = length-each f n in
-    let made : starts ≡ each f n = same_lists _ _ (len ∙ sym size) (λ j d lt.
-    let low : j < n = omega (arith, lt, len) in
-    let one : get_or starts j 0 ≡ f j = same j low in
-    let two : get_or (each f n) j 0 ≡ f j = get_or-each f n j 0 low in
-    grind (arith, places)) in
-    ap (λ (xs : List ℕ). xs ++ rest) made ∙ ap (λ (ys : List ℕ). each f n ++ ys) e
+room_of_starts f n old starts rest len same e = grind (arith, length-each, same_lists, get_or-each, places)

@@ -1,5 +1,5 @@
 -- Walks: more steps than there are bytes make no difference, so a walk is its first item, and the walk from there on.
-use Rattle.std.proofs.Common.{◌*◌, Bool, ◌≡◌, ℕ, zero, suc, ◌+◌, ◌-◌, ◌<◌, ◌≤◌, true, false, List, [], ◌∷◌, length, leb, Result, Ok, Err, refl, ap, sym, ◌∙◌, arith, inl, inr}
+use Rattle.std.proofs.Common.{◌*◌, ◌≡◌, ℕ, zero, suc, ◌+◌, ◌-◌, ◌<◌, ◌≤◌, false, List, [], ◌∷◌, length, leb, Result, Ok, Err, refl, ap, sym, ◌∙◌, arith, inl, inr}
 use Rattle.std.proofs.lemmas.Bool.{cases_lt}
 use Rattle.std.proofs.lemmas.Bool.Decides.{nat_tests}
 use Rattle.std.specs.Prelude.{if◌then◌else◌}
@@ -9,16 +9,14 @@ use Rattle.pe_pdb.specs.Walks.{Advances, ItemAt, first_items, items, with_end, w
 
 first_none : {X : Type 0} (item : ItemAt X) (end n p : ℕ) → end ≤ p → first_items item end n p ≡ []
 unfolding first_items
-first_none item end zero p past = refl
-first_none item end (suc n) p past = let t : leb end p ≡ true = grind (arith, nat_tests) in rw t
+first_none item end n p past = grind (arith, nat_tests)
 
 first_step : {X : Type 0} (item : ItemAt X) (end n p : ℕ) → p < end → first_items item end (suc n) p ≡ with_more (first_items item end n) (item p)
 unfolding first_items
 first_step item end n p before = let t : leb end p ≡ false = grind (arith, nat_tests) in rw t
 
 with_same : {X : Type 0} (f g : ℕ → List (Result X PdbRefusal)) (r : Result (X × ℕ) PdbRefusal) → ((y : X × ℕ) → r ≡ Ok y → f y.1 ≡ g y.1) → with_more f r ≡ with_more g r
-with_same f g (Ok y) same = ap (λ (l : List (Result _ PdbRefusal)). Ok y.0 ∷ l) (same y refl)
-with_same f g (Err r) same = refl
+with_same f g r same = grind arith
 
 first_enough : {X : Type 0} (item : ItemAt X) → Advances item → (end n m p : ℕ) → end ≤ p + n → end ≤ p + m → first_items item end n p ≡ first_items item end m p
 first_enough item later end zero m p few enough = first_none item end zero p (omega (arith, few)) ∙ sym (first_none item end m p (omega (arith, few)))
@@ -48,39 +46,24 @@ items_step {X} item later end p before =
 abbrev pub EndsLater : {X : Type 0} → (X → ℕ) → (ℕ → Result X PdbRefusal) → Type 0
 EndsLater {X} end at = (p : ℕ) (x : X) → at p ≡ Ok x → p < end x
 
-ends_after : {X : Type 0} (end : X → ℕ) (p : ℕ) (r : Result X PdbRefusal) → ((x : X) → r ≡ Ok x → p < end x) → (y : X × ℕ) → (r >>= λ x. Ok (x, end x)) ≡ Ok y → p < y.1
-ends_after end p (Ok x) later y is = let same : end x ≡ y.1 = cc is in let after = later x refl in omega (arith, same, after)
-ends_after end p (Err r) later y is = absurd (cc is)
-
 advances : {X : Type 0} (end : X → ℕ) (at : ℕ → Result X PdbRefusal) → EndsLater end at → Advances (with_end end at)
-advances {X} end at later p y is = ends_after end p (at p) (later p) y is
+advances end at later = grind arith
 
 pub walk_none : {X : Type 0} (end : X → ℕ) (at : ℕ → Result X PdbRefusal) (n p : ℕ) → n ≤ p → items (with_end end at) n p ≡ []
 walk_none end at n p past = items_none (with_end end at) n p past
 
 pub walk_more : {X : Type 0} (end : X → ℕ) (at : ℕ → Result X PdbRefusal) → EndsLater end at → (n p : ℕ) (x : X) → p < n → at p ≡ Ok x →
     items (with_end end at) n p ≡ Ok x ∷ items (with_end end at) n (end x)
-walk_more {X} end at later n p x before is =
-    items_step (with_end end at) (advances end at later) n p before
-    ∙ ap (λ (r : Result X PdbRefusal). with_more (items (with_end end at) n) (r >>= λ x. Ok (x, end x))) is
+walk_more end at later n p x before is = grind (arith, items_step, advances)
 
 pub walk_refused : {X : Type 0} (end : X → ℕ) (at : ℕ → Result X PdbRefusal) → EndsLater end at → (n p : ℕ) (r : PdbRefusal) → p < n → at p ≡ Err r →
     items (with_end end at) n p ≡ Err r ∷ []
-walk_refused {X} end at later n p r before is =
-    items_step (with_end end at) (advances end at later) n p before
-    ∙ ap (λ (r : Result X PdbRefusal). with_more (items (with_end end at) n) (r >>= λ x. Ok (x, end x))) is
+walk_refused end at later n p r before is = grind (arith, items_step, advances)
 
 -- a walk is its first item, and the walk from there on
 pub walk_whole : {X : Type 0} (end : X → ℕ) (at : ℕ → Result X PdbRefusal) → EndsLater end at → (n p : ℕ) →
     items (with_end end at) n p ≡ (if leb n p then [] else with_more (items (with_end end at) n) (with_end end at p))
-walk_whole {X} end at later n p = elim (cases_lt p n) [
-  | inl lt ↦
-      let t : leb n p ≡ false = grind (arith, nat_tests) in
-      items_step (with_end end at) (advances end at later) n p lt ∙ sym (ap (λ (c : Bool). if c then [] else with_more (items (with_end end at) n) (with_end end at p)) t)
-  | inr ge ↦
-      let t : leb n p ≡ true = grind (arith, nat_tests) in
-      walk_none end at n p ge ∙ sym (ap (λ (c : Bool). if c then [] else with_more (items (with_end end at) n) (with_end end at p)) t)
-]
+walk_whole end at later n p = grind (arith, cases_lt, nat_tests, items_step, advances, walk_none)
 
 -- ---- few items, where each has so many bytes
 
@@ -90,11 +73,7 @@ HasWidth {X} width n end at = (p : ℕ) (x : X) → at p ≡ Ok x → (p + width
 few_more : {X : Type 0} (width n : ℕ) (end : X → ℕ) (at : ℕ → Result X PdbRefusal) → HasWidth width n end at → (more : ℕ → List (Result X PdbRefusal)) →
     ((q : ℕ) → width * length (more q) + 1 ≤ (n - q) + width) → (p : ℕ) → p < n → (r : Result X PdbRefusal) → at p ≡ r →
     width * length (with_more more (r >>= λ x. Ok (x, end x))) + 1 ≤ (n - p) + width
-few_more width n end at wide more few p lt (Ok x) is =
-    let size = wide p x is in
-    let rest = few (end x) in
-    let one : width * suc (length (more (end x))) ≡ width * length (more (end x)) + width = grind arith in
-    omega (arith, size.0, size.1, rest, one)
+few_more width n end at wide more few p lt (Ok x) is = grind (arith)
 few_more width n end at wide more few p lt (Err r) is =
     let one : width * 1 ≡ width = grind arith in omega (arith, one, lt)
 
@@ -104,11 +83,7 @@ unfolded_zero end at n p = refl
 
 few_first : {X : Type 0} (width n : ℕ) (end : X → ℕ) (at : ℕ → Result X PdbRefusal) → 0 < width → HasWidth width n end at → (k p : ℕ) →
     width * length (first_items (with_end end at) n k p) + 1 ≤ (n - p) + width
-few_first width n end at some wide zero p =
-    let none : width * 0 ≡ 0 = grind arith in
-    let e : length (first_items (with_end end at) n zero p) ≡ 0 = ap length (unfolded_zero end at n p) in
-    let same : width * length (first_items (with_end end at) n zero p) ≡ width * 0 = ap (λ m. width * m) e in
-    omega (arith, none, same, some)
+few_first width n end at some wide zero p = grind (arith, unfolded_zero)
 few_first width n end at some wide (suc k) p = elim (cases_lt p n) [
   | inl lt ↦
       let e = ap length (first_step (with_end end at) n k p lt) in

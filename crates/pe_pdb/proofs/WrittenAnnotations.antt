@@ -1,11 +1,11 @@
 -- What is read of annotations that are written.
-use Rattle.std.proofs.Common.{◌≡◌, ℕ, suc, ◌+◌, ◌*◌, ◌/◌, ◌%◌, ◌^◌, ◌<◌, ◌≤◌, Bool, true, false, List, [], ◌∷◌, ◌++◌, length, get_or, Result, Ok, refl, ap, sym, subst, ◌∙◌, arith, append_assoc, length-append, inl, inr, ltb, leb}
+use Rattle.std.proofs.Common.{◌≡◌, ℕ, ◌+◌, ◌*◌, ◌%◌, ◌^◌, ◌<◌, ◌≤◌, Bool, true, false, List, [], ◌∷◌, ◌++◌, length, get_or, Result, Ok, refl, ap, sym, subst, ◌∙◌, arith, append_assoc, length-append}
 use Rattle.std.proofs.lemmas.Bool.{cases_lt}
 use Rattle.std.proofs.lemmas.Bool.Decides.{nat_tests}
 use Rattle.std.proofs.lemmas.List.{append-nil, get_or-append-add}
 use Rattle.std.proofs.lemmas.List.Elements.{All-head, All-tail}
 use Rattle.std.specs.List.{All}
-use Rattle.std.specs.Prelude.{◌==◌, slice_index, if◌then◌else◌}
+use Rattle.std.specs.Prelude.{◌==◌, if◌then◌else◌}
 use Rattle.pe_core.specs.Bytes.{le}
 use Rattle.pe_core.proofs.NumberBytes.{le-cons, le-zero}
 use Rattle.pe_pdb.specs.Annotations.{annotation_at, annotations, number_at}
@@ -17,42 +17,21 @@ use Rattle.pe_pdb.proofs.Walked.{items_none}
 
 -- a byte after others
 byte_of : (before ys : List ℕ) (k x : ℕ) → get_or ys k 0 ≡ x → le (before ++ ys) (length before + k) 1 ≡ x
-byte_of before ys k x is =
-    let b = before ++ ys in
-    let p = length before + k in
-    let one : le b p 1 ≡ slice_index b p + 256 * le b (suc p) 0 = le-cons b p 0 in
-    let none : le b (suc p) 0 ≡ 0 = le-zero b (suc p) in
-    let at : get_or b p 0 ≡ get_or ys k 0 = get_or-append-add before ys k 0 in
-    let same : slice_index b p ≡ x = at ∙ is in
-    omega (arith, one, none, same)
+byte_of before ys k x is = grind (arith, le-cons, le-zero, get_or-append-add)
 
 -- numbers of 1, 2 and 4 bytes
 one_byte : (b : List ℕ) (p n : ℕ) → le b p 1 ≡ n → n < 128 → p + 1 ≤ length b → number_at b p ≡ Ok (n, p + 1)
 unfolding number_at
-one_byte b p n is low inside =
-    let a : ltb n 128 ≡ true = grind (arith, nat_tests) in
-    let h : leb (p + 1) (length b) ≡ true = grind (arith, nat_tests) in
-    rw is (rw a (rw h refl))
+one_byte b p n is low inside = grind (arith, nat_tests)
 
 two_bytes : (b : List ℕ) (p x y : ℕ) → le b p 1 ≡ x → 128 ≤ x → x < 192 → le b (p + 1) 1 ≡ y → p + 2 ≤ length b → number_at b p ≡ Ok (x % 64 * 256 + y, p + 2)
 unfolding number_at
-two_bytes b p x y is high low next inside =
-    let a : ltb x 128 ≡ false = grind (arith, nat_tests) in
-    let c : ltb x 192 ≡ true = grind (arith, nat_tests) in
-    let h : leb (p + 1) (length b) ≡ true = grind (arith, nat_tests) in
-    let k : leb (p + 2) (length b) ≡ true = grind (arith, nat_tests) in
-    rw is (rw a (rw c (rw h (rw k (rw next refl)))))
+two_bytes b p x y is high low next inside = grind (arith, nat_tests)
 
 four_bytes : (b : List ℕ) (p x y z w : ℕ) → le b p 1 ≡ x → 192 ≤ x → x < 224 → le b (p + 1) 1 ≡ y → le b (p + 2) 1 ≡ z → le b (p + 3) 1 ≡ w → p + 4 ≤ length b →
     number_at b p ≡ Ok (x % 32 * 16777216 + y * 65536 + z * 256 + w, p + 4)
 unfolding number_at
-four_bytes b p x y z w is high low second third fourth inside =
-    let a : ltb x 128 ≡ false = grind (arith, nat_tests) in
-    let c : ltb x 192 ≡ false = grind (arith, nat_tests) in
-    let d : ltb x 224 ≡ true = grind (arith, nat_tests) in
-    let h : leb (p + 1) (length b) ≡ true = grind (arith, nat_tests) in
-    let k : leb (p + 4) (length b) ≡ true = grind (arith, nat_tests) in
-    rw is (rw a (rw c (rw d (rw h (rw k (rw second (rw third (rw fourth refl))))))))
+four_bytes b p x y z w is high low second third fourth inside = grind (arith, nat_tests)
 
 -- a number that is written is read
 abbrev pub Reads : ℕ → List ℕ → Type 0
@@ -63,72 +42,20 @@ start_byte before ys x is =
     let zero_more : length before ≡ length before + 0 = omega arith in
     ap (λ (p : ℕ). le (before ++ ys) p 1) zero_more ∙ byte_of before ys 0 x is
 
-number_of_one : (n : ℕ) → n < 128 → Reads n (n ∷ [])
-number_of_one n low before after =
-    let size = length-append before (n ∷ after) in
-    one_byte (before ++ (n ∷ after)) (length before) n (start_byte before (n ∷ after) n refl) low (omega (arith, size))
-
-number_of_two : (n : ℕ) → 128 ≤ n → n < 16384 → Reads n ((128 + n / 256) ∷ (n % 256) ∷ [])
-number_of_two n high low before after =
-    let x : ℕ = 128 + n / 256 in
-    let y : ℕ = n % 256 in
-    let ys : List ℕ = x ∷ y ∷ after in
-    let size = length-append before ys in
-    let value : x % 64 * 256 + y ≡ n = omega (arith, low) in
-    two_bytes (before ++ ys) (length before) x y (start_byte before ys x refl) (omega arith) (omega (arith, low)) (byte_of before ys 1 y refl) (omega (arith, size))
-    ∙ ap (λ (m : ℕ). Ok (m, length before + 2)) value
-
-number_of_four : (n : ℕ) → 16384 ≤ n → n < 2 ^ 29 → Reads n ((192 + n / 16777216) ∷ (n / 65536 % 256) ∷ (n / 256 % 256) ∷ (n % 256) ∷ [])
-number_of_four n high low before after =
-    let x : ℕ = 192 + n / 16777216 in
-    let y : ℕ = n / 65536 % 256 in
-    let z : ℕ = n / 256 % 256 in
-    let w : ℕ = n % 256 in
-    let ys : List ℕ = x ∷ y ∷ z ∷ w ∷ after in
-    let size = length-append before ys in
-    let value : x % 32 * 16777216 + y * 65536 + z * 256 + w ≡ n = omega (arith, low) in
-    four_bytes (before ++ ys) (length before) x y z w (start_byte before ys x refl) (omega arith) (omega (arith, low)) (byte_of before ys 1 y refl) (byte_of before ys 2 z refl) (byte_of before ys 3 w refl) (omega (arith, size))
-    ∙ ap (λ (m : ℕ). Ok (m, length before + 4)) value
-
 pub number_read : (n : ℕ) → n < 2 ^ 29 → Reads n (written_number n)
-number_read n small = elim (cases_lt n 128) [
-  | inl low ↦
-      let t : ltb n 128 ≡ true = grind (arith, nat_tests) in
-      let w : n ∷ [] ≡ written_number n = rw t refl in
-      subst (Reads n) w (number_of_one n low)
-  | inr high ↦ elim (cases_lt n 16384) [
-    | inl low ↦
-        let t : ltb n 128 ≡ false = grind (arith, nat_tests) in
-        let u : ltb n 16384 ≡ true = grind (arith, nat_tests) in
-        let w : (128 + n / 256) ∷ (n % 256) ∷ [] ≡ written_number n = rw t (rw u refl) in
-        subst (Reads n) w (number_of_two n high low)
-    | inr higher ↦
-        let t : ltb n 128 ≡ false = grind (arith, nat_tests) in
-        let u : ltb n 16384 ≡ false = grind (arith, nat_tests) in
-        let w : (192 + n / 16777216) ∷ (n / 65536 % 256) ∷ (n / 256 % 256) ∷ (n % 256) ∷ [] ≡ written_number n = rw t (rw u refl) in
-        subst (Reads n) w (number_of_four n higher small)
-  ]
-]
+number_read n small = grind (arith, cases_lt, nat_tests, length-append, one_byte, start_byte, two_bytes, byte_of, four_bytes)
 
 -- a number after one that was read before it
 next_read : (n p q : ℕ) (b before ys after : List ℕ) → Reads n ys → b ≡ before ++ (ys ++ after) → p ≡ length before → q ≡ p + length ys → number_at b p ≡ Ok (n, q)
-next_read n p q b before ys after reads is at end =
-    ap (λ (b : List ℕ). number_at b p) is ∙ ap (λ (k : ℕ). number_at (before ++ (ys ++ after)) k) at ∙ reads before after
-    ∙ ap (λ (k : ℕ). Ok (n, k)) (let e : length before + length ys ≡ q = omega (arith, at, end) in e)
+next_read n p q b before ys after reads is at end = grind arith
 
 read_by : (a : Annotation) (b : List ℕ) (p q r : ℕ) → IsWritable a → number_at b p ≡ Ok (a.operation, q) → number_at b q ≡ Ok (a.first, r) → a.second ≡ 0 → (a.operation == 12) ≡ false → annotation_at b p ≡ Ok (a, r)
 unfolding annotation_at
-read_by a b p q r fits one two none other =
-    let s : (a.operation == 0) ≡ false = (let h = fits.some in grind (arith, nat_tests)) in
-    let k : leb a.operation 13 ≡ true = (let h = fits.known in grind (arith, nat_tests)) in
-    rw one (rw s (rw k (rw two (rw other (ap (λ (n : ℕ). Ok (record { operation = a.operation; first = a.first; second = n }, r)) (sym none))))))
+read_by a b p q r fits one two none other = grind (arith, nat_tests)
 
 read_by_two : (a : Annotation) (b : List ℕ) (p q r t : ℕ) → IsWritable a → number_at b p ≡ Ok (a.operation, q) → number_at b q ≡ Ok (a.first, r) → number_at b r ≡ Ok (a.second, t) → (a.operation == 12) ≡ true → annotation_at b p ≡ Ok (a, t)
 unfolding annotation_at
-read_by_two a b p q r t fits one two three both =
-    let s : (a.operation == 0) ≡ false = (let h = fits.some in grind (arith, nat_tests)) in
-    let k : leb a.operation 13 ≡ true = (let h = fits.known in grind (arith, nat_tests)) in
-    rw one (rw s (rw k (rw two (rw both (rw three refl)))))
+read_by_two a b p q r t fits one two three both = grind (arith, nat_tests)
 
 read_if : (a : Annotation) (two : Bool) → (a.operation == 12) ≡ two → IsWritable a → (before after : List ℕ) →
     annotation_at (before ++ (written a ++ after)) (length before) ≡ Ok (a, length before + length (written a))
@@ -174,9 +101,7 @@ abbrev Ends : List ℕ → List (Result Annotation PdbRefusal) → Type 0
 Ends tail items = (before : List ℕ) → annotations (before ++ tail) (length before) ≡ items
 
 ends_here : Ends [] []
-ends_here before =
-    let size : length (before ++ []) ≤ length before = (let l = length-append before [] in omega (arith, l)) in
-    items_none (annotation_at (before ++ [])) (length (before ++ [])) (length before) size
+ends_here = grind (arith, length-append, items_none)
 
 read_zero : (b : List ℕ) (p q : ℕ) → number_at b p ≡ Ok (0, q) → annotation_at b p ≡ Ok (end_of_annotations, length b)
 unfolding annotation_at

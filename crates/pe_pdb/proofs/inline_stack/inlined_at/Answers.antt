@@ -1,4 +1,4 @@
-use Rattle.std.proofs.Common.{◌≡◌, ◌-◌, ◌<◌, drop, length, length-set, ◌∷◌, Result, Ok, Err, arith, rules, ap, ◌∙◌, ℕ, ◌+◌, ◌≤◌, Bool, true, false, List, [], slice_set, sym}
+use Rattle.std.proofs.Common.{◌≡◌, ◌-◌, ◌<◌, drop, length, length-set, ◌∷◌, Result, Ok, Err, arith, rules, ap, ◌∙◌, ℕ, ◌+◌, ◌≤◌, Bool, true, false, List, [], slice_set}
 use Rattle.std.proofs.lemmas.Bool.Decides.{nat_tests}
 use Rattle.std.proofs.lemmas.List.{drop-set}
 use Rattle.std.specs.Prelude.{◌==◌, if◌then◌else◌}
@@ -36,9 +36,7 @@ stacked_put n room walk more f is some fits =
     let test : (n == 0) ≡ false = grind (arith, nat_tests) in
     let next : (n - 1) + 1 ≡ n = omega (arith, some) in
     let put : drop (n - 1) (slice_set room (n - 1) f) ≡ f ∷ drop n room = drop-set room (n - 1) f (omega (arith, some, fits)) ∙ ap (λ (k : ℕ). f ∷ drop k room) next in
-    stacked_more n (drop n room) walk more f is
-    ∙ ap (λ (t : Bool). if t then Err InlineDepth else stacked (n - 1) (f ∷ drop n room) more) test
-    ∙ ap (λ (l : List InlineFrame). stacked (n - 1) l more) (sym put)
+    grind (arith, stacked_more n (drop n room) walk more f is, test, put)
 
 pub returns-in_err-frame : goal.returns-in_err-frame
 returns-in_err-frame c =
@@ -51,27 +49,10 @@ returns-in_err-frame c =
     search rules
 
 pub returns-then-first-eq0 : goal.returns-then-first-eq0
-returns-then-first-eq0 c =
-    let l = c.loop-frame in
-    let more = frames_left c.next.new.self in
-    let e = c.in-Some.ensures.steps ∙ ap (λ (k : Result InlineFrame PdbError). step_view (λ (x : InlineFrame). x) k ∷ more) c.in_ok-frame.was in
-    l.invariant.same ∙ stacked_full l.first (drop l.first l.room) (frames_left l.walk) more c.in_ok-frame.frame e (omega arith)
+returns-then-first-eq0 c = search (rules, arith, stacked_full)
 
 pub loop-frame-preserved : goal.loop-frame-preserved
-loop-frame-preserved c =
-    let l = c.loop-frame in
-    let more = frames_left c.next.new.self in
-    let e = c.in-Some.ensures.steps ∙ ap (λ (k : Result InlineFrame PdbError). step_view (λ (x : InlineFrame). x) k ∷ more) c.in_ok-frame.was in
-    let some : 0 < l.first = omega arith in
-    record {
-      same = l.invariant.same ∙ stacked_put l.first l.room (frames_left l.walk) more c.in_ok-frame.frame e some (omega (arith, l.invariant.size, l.invariant.few));
-      size = length-set l.room (l.first - 1) c.in_ok-frame.frame ∙ l.invariant.size;
-      few = omega (arith, l.invariant.few);
-    }
+loop-frame-preserved c = search (rules, arith, stacked_put, length-set)
 
 pub returns : goal.returns
-returns c =
-    let l = c.loop-frame in
-    let all : inlined_at (length c.args.room.now) c.args.bytes.now c.args.procedure c.args.offset ≡ Ok (drop l.first l.room) =
-    l.invariant.same ∙ stacked_end l.first (drop l.first l.room) (frames_left l.walk) c.in_default.ensures.steps.0 in
-    search rules
+returns c = search (rules, arith, stacked_end)

@@ -1,8 +1,8 @@
-use Rattle.std.proofs.Common.{◌≡◌, ℕ, Bool, true, false, List, [], ◌∷◌, ◌++◌, length, get_or, Option, Some, None, Result, Ok, Err, refl, ap, sym, subst, ◌∙◌, arith, inl, inr}
+use Rattle.std.proofs.Common.{◌≡◌, ℕ, Bool, List, [], ◌∷◌, ◌++◌, length, Option, Some, Result, Ok, Err, refl, ap, sym, subst, ◌∙◌, arith, inl, inr, rules}
 use Rattle.std.proofs.lemmas.List.Elements.{Contains-append_cases, Contains-append_left, Contains-append_right}
 use Rattle.std.specs.List.{Contains}
 use Rattle.std.specs.Option.{option_map, option_to_list}
-use Rattle.std.specs.Prelude.{if◌then◌else◌, nat_lt, ◌^◌}
+use Rattle.std.specs.Prelude.{if◌then◌else◌}
 use Rattle.pe_core.specs.Gathered.{with_rest}
 use Rattle.pe_pdb.specs.Refusals.{PdbRefusal, SymbolsSize}
 use Rattle.pe_pdb.specs.SymbolEntries.{HasEntry, address, addresses, addresses_of, rva_by}
@@ -12,23 +12,16 @@ use Rattle.pe_pdb.proofs.laws.entries_are_symbols.Goals as goal
 
 -- Which entries an index has.
 split_rest : (own : List ℕ) (r : Result (List ℕ) PdbRefusal) (xs : List ℕ) → with_rest own r ≡ Ok xs → (ys : List ℕ) × (r ≡ Ok ys) × (xs ≡ own ++ ys)
-split_rest own (Ok ys) xs is = let same : own ++ ys ≡ xs = cc is in (ys, refl, sym same)
-split_rest own (Err r) xs is = absurd (cc is)
+split_rest own r xs is = grind arith
 
 of_option : (o : Option ℕ) (f : ℕ → ℕ) (a : ℕ) → Contains (option_to_list (option_map f o)) a → (x : ℕ) × (o ≡ Some x) × (a ≡ f x)
-of_option None f a has = absurd (omega (arith, has.1))
-of_option (Some x) f a has =
-    let first : has.0 ≡ 0 = omega (arith, has.1) in
-    (x, refl, sym (subst (λ k. get_or (f x ∷ []) k a ≡ a) first has.2))
+of_option o f a has = grind arith
 
 to_option : (o : Option ℕ) (f : ℕ → ℕ) (x a : ℕ) → o ≡ Some x → a ≡ f x → Contains (option_to_list (option_map f o)) a
-to_option None f x a is at = absurd (cc is)
-to_option (Some y) f x a is at = let same : y ≡ x = cc is in (0, omega arith, ap f same ∙ sym at)
+to_option o f x a is at = grind arith
 
 one_of_one : (s t : Symbol) → Contains {X = Result Symbol PdbRefusal} (Ok s ∷ []) (Ok t) → s ≡ t
-one_of_one s t has =
-    let first : has.0 ≡ 0 = omega (arith, has.1) in
-    let same : ◌≡◌ {A = Result Symbol PdbRefusal} (Ok s) (Ok t) = subst (λ k. get_or {A = Result Symbol PdbRefusal} (Ok s ∷ []) k (Ok t) ≡ Ok t) first has.2 in cc same
+one_of_one s t has = grind arith
 
 has_symbol : (rva : Symbol → Option ℕ) (items : List (Result Symbol PdbRefusal)) (xs : List ℕ) → addresses_of rva items ≡ Ok xs → (a : ℕ) → Contains xs a → HasEntry rva items a
 unfolding addresses_of
@@ -57,14 +50,11 @@ has_entry rva (Ok s ∷ more) xs is a h =
     ])
 
 passes : (c : Bool) (r : Result (List ℕ) PdbRefusal) (xs : List ℕ) → (if c then r else Err SymbolsSize) ≡ Ok xs → r ≡ Ok xs
-passes true r xs is = is
-passes false r xs is = absurd (cc is)
+passes c r xs is = grind arith
 
 entries_of : (class : SymbolClass) (b : List ℕ) (start : ℕ) (sections xs : List ℕ) → addresses class b start sections ≡ Ok xs → (a : ℕ) →
     (Contains xs a → HasEntry (rva_by class sections) (symbols b start) a) × (HasEntry (rva_by class sections) (symbols b start) a → Contains xs a)
-entries_of class b start sections xs is a =
-    let made = passes (nat_lt (length b) (2 ^ 32)) (addresses_of (rva_by class sections) (symbols b start)) xs is in
-    (has_symbol (rva_by class sections) (symbols b start) xs made a, has_entry (rva_by class sections) (symbols b start) xs made a)
+entries_of class b start sections xs is a = search (rules, arith, passes, has_symbol, has_entry)
 
 pub returns : goal.returns
 returns c = entries_of

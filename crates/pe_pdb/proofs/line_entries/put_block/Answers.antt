@@ -1,4 +1,4 @@
-use Rattle.std.proofs.Common.{Option, arith, refl, subst, ◌∙◌}
+use Rattle.std.proofs.Common.{Option, arith, subst, ◌∙◌, rules}
 use Rattle.std.specs.Option.{option_to_list}
 use Rattle.pe_pdb.specs.LineEntries.{Writes, code_view}
 use Rattle.pe_pdb.specs.Lines.{block_view}
@@ -7,11 +7,7 @@ use Rattle.pe_pdb.proofs.LineEntries.{rows_none, rows_written}
 use Rattle.pe_pdb.proofs.line_entries.put_block.Goals as goal
 
 pub loop-index-init : goal.loop-index-init
-loop-index-init c = record {
-  writes = rows_none (code_view c.args.code.now) (block_view c.args.block.now) c.args.count c.args.room.now;
-  few = omega arith;
-  same = refl;
-}
+loop-index-init c = search (rules, arith, rows_none)
 
 pub loop-index-preserved : goal.loop-index-preserved
 loop-index-preserved c =

@@ -30,10 +30,4 @@ loop-next-preserved c =
     }
 
 pub returns-clause-writes : goal.returns-clause-writes
-returns-clause-writes c =
-    let b = c.args.code.now.content.now in
-    let so = c.loop-next.invariant.gathers in (
-      so.sofar,
-      gathers_all (λ (v : BlockView). Ok (block_lines (code_view c.args.code.now) v (rows_in v))) (blocks b 12) (blocks b c.loop-next.next) (λ ys. Writes ys c.args.count c.args.room.now c.loop-next.after c.loop-next.room) so (blocks_none b c.loop-next.next (omega arith)),
-      so.holds,
-    )
+returns-clause-writes c = search (rules, arith, gathers_all, blocks_none)

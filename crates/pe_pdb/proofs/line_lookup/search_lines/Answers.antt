@@ -67,9 +67,6 @@ nearest_of es x n up some within before after e is = record {
 key_rva : (a b i k : ℕ) → i < 2 ^ 32 → k < 2 ^ 32 → b * 2 ^ 32 + k ≤ a * 2 ^ 32 + i → b ≤ a
 key_rva a b i k low small le = omega (arith, low, small, le)
 
-key_index : (a b i k : ℕ) → b ≡ a → b * 2 ^ 32 + k ≤ a * 2 ^ 32 + i → k ≤ i
-key_index a b i k same le = omega (arith, same, le)
-
 last_of : (xs : List CodeLine) (rva : ℕ) (e : LineEntry) → length xs ≤ 2 ^ 32 → IsNearestEntry (entries_from 0 xs) rva e → (i : ℕ) × IsLastBefore xs rva i × ((d : CodeLine) → get_or xs i d ≡ e.line)
 last_of xs rva e small near =
     let at = line_of xs e near.listed in
@@ -85,7 +82,7 @@ last_of xs rva e small near =
         latest = λ k d lt same.
             let own : (get_or xs k d).rva ≡ e.line.rva = same ∙ ap (λ (x : CodeLine). x.rva) (at.3 d) in
             let b = near.before in
-            key_index e.line.rva (get_or xs k d).rva i k own (key k d lt (omega (arith, own, b)));
+            omega (arith, own, key k d lt (omega (arith, own, b)));
       },
       at.3,
     )

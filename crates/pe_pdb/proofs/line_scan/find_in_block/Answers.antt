@@ -1,5 +1,5 @@
 use Rattle.std.proofs.Common.{◌≡◌, ◌*◌, ◌<◌, ◌≤◌, ◌⊎◌, ap, sym, ◌∙◌, arith, rules, inl, inr}
-use Rattle.pe_pdb.specs.LineEntries.{code_line, code_view, rows_in}
+use Rattle.pe_pdb.specs.LineEntries.{code_line, code_view}
 use Rattle.pe_pdb.specs.Lines.{block_view, line_row}
 use Rattle.pe_pdb.specs.Scans.{least_of}
 use Rattle.pe_pdb.proofs.Scans.{best_of, row_left, row_taken, rows_left, rows_next, rows_none}
@@ -7,15 +7,10 @@ use Rattle.pe_pdb.proofs.line_scan.find_in_block.Goals as goal
 use Rattle.pe_pdb.proofs.line_scan.find_in_block.Goals.{then-least-offset+then-offset-end, else-least-offset, else-least-offset-via-then-least-offset+else-offset-end, else-least-offset-via-else-least-offset}
 
 pub returns-then-end-least : goal.returns-then-end-least
-returns-then-end-least c =
-    rows_left (code_view c.args.code.now) (block_view c.args.block.now) (rows_in (block_view c.args.block.now)) c.args.rva c.from-least.result c.end_of-end.result c.args.found c.end_of-end.ensures (search rules) (omega arith)
+returns-then-end-least c = search (rules, arith, rows_left)
 
 pub loop-index-init : goal.loop-index-init
-loop-index-init c = record {
-  finds = rows_none (code_view c.args.code.now) (block_view c.args.block.now) c.args.rva c.args.found;
-  from = search rules;
-  listed = search rules;
-}
+loop-index-init c = search (rules, arith, rows_none)
 
 pub loop-index-preserved : goal.loop-index-preserved
 loop-index-preserved c =

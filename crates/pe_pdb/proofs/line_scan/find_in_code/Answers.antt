@@ -18,10 +18,7 @@ returns-in_err-block c =
     search rules
 
 pub loop-next-init : goal.loop-next-init
-loop-next-init c = record {
-  gathers = gathers_none (λ (v : BlockView). Ok (block_lines (code_view c.args.code.now) v (rows_in v))) (blocks c.args.code.now.content.now 12) (λ ys. Finds (row_before c.args.rva) ys c.args.found c.args.found) (finds_none (row_before c.args.rva) c.args.found);
-  inside = omega arith;
-}
+loop-next-init c = search (rules, arith, gathers_none, finds_none)
 
 pub loop-next-preserved : goal.loop-next-preserved
 loop-next-preserved c =
@@ -37,10 +34,4 @@ loop-next-preserved c =
     }
 
 pub returns : goal.returns
-returns c =
-    let b = c.args.code.now.content.now in
-    let so = c.loop-next.invariant.gathers in (
-      so.sofar,
-      gathers_all (λ (v : BlockView). Ok (block_lines (code_view c.args.code.now) v (rows_in v))) (blocks b 12) (blocks b c.loop-next.next) (λ ys. Finds (row_before c.args.rva) ys c.args.found c.loop-next.last) so (blocks_none b c.loop-next.next (omega arith)),
-      so.holds,
-    )
+returns c = search (rules, arith, gathers_all, blocks_none)

@@ -1,4 +1,4 @@
-use Rattle.std.proofs.Common.{◌≡◌, ℕ, ◌+◌, length, ◌∷◌, Option, None, Ok, Err, arith, rules, ap, sym, ◌∙◌}
+use Rattle.std.proofs.Common.{◌≡◌, ℕ, ◌+◌, length, ◌∷◌, Option, Ok, Err, arith, rules, ap, sym, ◌∙◌}
 use Rattle.std.proofs.lemmas.Grind.{div_ceil_times}
 use Rattle.pe_pdb.specs.Frames.{line_with, row_before}
 use Rattle.pe_pdb.specs.LineEntries.{lines_of_subsection, module_lines}
@@ -36,10 +36,7 @@ returns-in_err-last c =
     search rules
 
 pub loop-next-init : goal.loop-next-init
-loop-next-init c = record {
-  gathers = gathers_none (lines_of_subsection c.args.sections.now.bytes.now) (subsections c.args.bytes.now 0) (λ ys. None ≡ row_before c.args.rva ys) (no_row c.args.rva);
-  near = omega arith;
-}
+loop-next-init c = search (rules, arith, gathers_none, no_row)
 
 pub loop-next-preserved : goal.loop-next-preserved
 loop-next-preserved c =

@@ -1,11 +1,10 @@
-use Rattle.std.proofs.Common.{arith, ◌-◌, get_or, ap, ◌∙◌}
+use Rattle.std.proofs.Common.{arith, ◌-◌, get_or, ap, ◌∙◌, rules}
 use Rattle.pe_core.specs.declared.range_index.RangeEntry.{RangeEntry}
 use Rattle.pe_core.proofs.RangeCuts.{last_starts, none_starts}
 use Rattle.pe_pdb.proofs.module_lookup.search_ranges.Goals as goal
 
 pub returns-then-after-eq0-clause-number : goal.returns-then-after-eq0-clause-number
-returns-then-after-eq0-clause-number c = λ up.
-    none_starts c.args.entries.now.entries.now _ c.args.address c.if-after-eq0.true (λ k d h l. c.count_up_to-after.ensures.cut.after up k d h l)
+returns-then-after-eq0-clause-number c = search (rules, arith, none_starts)
 
 pub returns-clause-number : goal.returns-clause-number
 returns-clause-number c = λ up.

@@ -1,15 +1,11 @@
-use Rattle.std.proofs.Common.{ℕ, ◌+◌, ◌-◌, ◌/◌, arith}
+use Rattle.std.proofs.Common.{ℕ, ◌+◌, ◌-◌, ◌/◌, arith, rules}
 use Rattle.pe_pdb.specs.Omap.{omap}
 use Rattle.pe_pdb.proofs.Halves.{goes_down, goes_up, starts}
 use Rattle.pe_pdb.proofs.OmapRows.{count_of_rows, row_in, rva_of_row}
 use Rattle.pe_pdb.proofs.omap.count_up_to.Goals as goal
 
 pub loop-size-init : goal.loop-size-init
-loop-size-init c = record {
-  some = omega arith;
-  fits = omega arith;
-  cut = starts rva_of_row (omap c.args.table.now) c.args.rva _ (omega (arith, count_of_rows c.args.table.now));
-}
+loop-size-init c = search (rules, arith, starts, rva_of_row, count_of_rows)
 
 pub loop-size-preserved-then-at-rva : goal.loop-size-preserved-then-at-rva
 loop-size-preserved-then-at-rva c =
@@ -34,16 +30,10 @@ loop-size-preserved c =
     }
 
 pub returns-then-at-rva-2 : goal.returns-then-at-rva-2
-returns-then-at-rva-2 c =
-    let l = c.loop-size in
-    let b = c.args.table.now in
-    goes_up rva_of_row (omap b) c.args.rva l.low (l.low + l.size) l.low (l.low + 1) (l.low + 1) c.at-2.result l.invariant.cut (omega arith) (omega arith) (omega arith) (λ d. row_in b l.low c.at-2.result d (omega arith) c.at-2.ensures) c.if-at-rva-2.true
+returns-then-at-rva-2 c = search (rules, arith, goes_up, rva_of_row, row_in)
 
 pub returns-else-at-rva-2 : goal.returns-else-at-rva-2
-returns-else-at-rva-2 c =
-    let l = c.loop-size in
-    let b = c.args.table.now in
-    goes_down rva_of_row (omap b) c.args.rva l.low (l.low + l.size) l.low l.low c.at-2.result l.invariant.cut (omega arith) (omega arith) (omega arith) (λ d. row_in b l.low c.at-2.result d (omega arith) c.at-2.ensures) (omega (arith, c.if-at-rva-2.false))
+returns-else-at-rva-2 c = search (rules, arith, goes_down, rva_of_row, row_in)
 
 pub returns-then-size-eq0 : goal.returns-then-size-eq0
 returns-then-size-eq0 c = starts rva_of_row (omap c.args.table.now) c.args.rva 0 (omega (arith, count_of_rows c.args.table.now, c.if-size-eq0.true))

@@ -1,4 +1,4 @@
-use Rattle.std.proofs.Common.{ℕ, List, Some, ap, sym, ◌∙◌}
+use Rattle.std.proofs.Common.{rules, arith}
 use Rattle.pe_core.proofs.AsciiTexts.{ascii_text-IsUtf8, ascii_text-is}
 use Rattle.pe_pdb.proofs.record_text.record_text.Goals as goal
 
@@ -6,6 +6,4 @@ pub from_utf8_unchecked-requires : goal.from_utf8_unchecked-requires
 from_utf8_unchecked-requires c = ascii_text-IsUtf8 c.args.content.now c.args.offset c.in-Some.end c.in-Some.ensures
 
 pub returns-in-Some : goal.returns-in-Some
-returns-in-Some c =
-    ap (λ (text : List ℕ). Some text) c.from_utf8_unchecked.ensures
-    ∙ sym (ascii_text-is c.args.content.now c.args.offset c.in-Some.end c.in-Some.ensures)
+returns-in-Some c = search (rules, arith, ascii_text-is)

@@ -29,12 +29,4 @@ loop-next-preserved c =
     }
 
 pub returns-clause-puts : goal.returns-clause-puts
-returns-clause-puts c =
-    let b = c.args.bytes.now in
-    let sections = c.args.sections.now.bytes.now in
-    let so = c.loop-next.invariant.gathers in (
-      so.sofar,
-      addresses_small c.args.class b c.args.start sections (omega arith) ∙ gathers_all (rva_by c.args.class sections) b c.args.start c.loop-next.next (Written c.loop-next.count c.loop-next.room) so (omega arith),
-      so.holds.counted,
-      so.holds.written,
-    )
+returns-clause-puts c = search (rules, arith, addresses_small, gathers_all)

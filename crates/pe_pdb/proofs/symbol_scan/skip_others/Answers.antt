@@ -6,7 +6,6 @@ use Rattle.pe_pdb.specs.Publics.{public_function_rva}
 use Rattle.pe_pdb.specs.Scans.{HasSameEntries, is_of, symbol_in}
 use Rattle.pe_pdb.specs.SymbolEntries.{rva_by}
 use Rattle.pe_pdb.specs.Symbols.{Symbol, symbol_at}
-use Rattle.pe_pdb.specs.declared.symbol_entries.SymbolClass.TheVariants.{PublicFunctions, Procedures}
 use Rattle.pe_pdb.specs.declared.symbol_entries.SymbolClass.{SymbolClass}
 use Rattle.pe_pdb.proofs.SymbolEntries.{entries_other}
 use Rattle.pe_pdb.proofs.symbol_scan.skip_others.Goals as goal
@@ -14,8 +13,7 @@ use Rattle.pe_pdb.proofs.symbol_scan.skip_others.Goals as goal
 -- Records of symbols that are skipped by their size and kind: they have no entry in an index.
 other_none : (class : SymbolClass) (sections : List ℕ) (s : Symbol) → is_of class s.kind ≡ false → rva_by class sections s ≡ None
 unfolding procedure_rva public_function_rva
-other_none PublicFunctions sections s other = rw other
-other_none Procedures sections s other = rw other
+other_none class sections s other = grind arith
 
 entries_skipped : (class : SymbolClass) (b : List ℕ) (start p q : ℕ) → HasSameEntries class b start p → p < length b → symbol_at b p ≡ Ok (symbol_in b p) →
     is_of class (symbol_in b p).kind ≡ false → q ≡ p + 2 + le b p 2 → 2 ≤ le b p 2 → q ≤ length b → HasSameEntries class b start q

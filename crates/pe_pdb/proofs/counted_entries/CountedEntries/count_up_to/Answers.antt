@@ -1,16 +1,9 @@
-use Rattle.std.proofs.Common.{ℕ, ◌+◌, ◌-◌, ◌/◌, ◌≤◌, get_or, length, ap, refl, ◌∙◌, arith}
+use Rattle.std.proofs.Common.{ℕ, ◌+◌, ◌-◌, ◌/◌, ◌≤◌, get_or, ap, ◌∙◌, arith, rules}
 use Rattle.pe_pdb.proofs.Halves.{digits-halved, digits-le, goes_down, goes_up, one_more-le, starts}
 use Rattle.pe_pdb.proofs.counted_entries.CountedEntries.count_up_to.Goals as goal
 
 pub loop-size-init : goal.loop-size-init
-loop-size-init g c =
-    let xs = c.args.self.now.entries.now in
-    record {
-      kept = refl;
-      some = omega arith;
-      cut = starts g.T.StartsAt.start_of xs c.args.address _ (omega arith);
-      cost = let few = digits-le (length xs - 1) (length xs) (omega arith) in omega (arith, few);
-    }
+loop-size-init g c = search (rules, arith, starts, digits-le)
 
 pub loop-size-preserved-then-start-address : goal.loop-size-preserved-then-start-address
 loop-size-preserved-then-start-address g c =
@@ -41,11 +34,7 @@ loop-size-preserved g c =
     }
 
 pub returns-then-start-address-2-clause-cut : goal.returns-then-start-address-2-clause-cut
-returns-then-start-address-2-clause-cut g c =
-    let l = c.loop-size in
-    goes_up g.T.StartsAt.start_of c.args.self.now.entries.now c.args.address l.low (l.low + l.size) l.low (l.low + 1) (l.low + 1) c.get-2.result l.invariant.cut (omega arith) (omega arith) (omega arith) (λ d. c.get-2.ensures.value d ∙ ap (λ r. get_or r.now l.low d) l.invariant.kept) (omega (arith, c.start-2.ensures, c.if-start-address-2.true))
+returns-then-start-address-2-clause-cut g c = search (rules, arith, goes_up)
 
 pub returns-else-start-address-2-clause-cut : goal.returns-else-start-address-2-clause-cut
-returns-else-start-address-2-clause-cut g c =
-    let l = c.loop-size in
-    goes_down g.T.StartsAt.start_of c.args.self.now.entries.now c.args.address l.low (l.low + l.size) l.low l.low c.get-2.result l.invariant.cut (omega arith) (omega arith) (omega arith) (λ d. c.get-2.ensures.value d ∙ ap (λ r. get_or r.now l.low d) l.invariant.kept) (omega (arith, c.start-2.ensures, c.if-start-address-2.false))
+returns-else-start-address-2-clause-cut g c = search (rules, arith, goes_down)

@@ -1,18 +1,14 @@
-use Rattle.std.proofs.Common.{◌≡◌, ◌+◌, ◌*◌, sym, ap, ◌∙◌, arith}
+use Rattle.std.proofs.Common.{◌≡◌, ◌+◌, ◌*◌, sym, ap, ◌∙◌, arith, rules}
 use Rattle.std.specs.Int.{div_ceil}
 use Rattle.pe_pdb.specs.Msf.{msf_view, word_of}
 use Rattle.pe_pdb.proofs.Blocks.{all_each}
 use Rattle.pe_pdb.proofs.file.Msf.stream_from.Goals as goal
 
 pub invariant_of-result-clause-listed : goal.invariant_of-result-clause-listed
-invariant_of-result-clause-listed c =
-    let same : div_ceil c.size_of-size.result (4 * c.args.self.now.map.words) ≡ c.blocks_of-count.result = ap (λ n. div_ceil n (4 * c.args.self.now.map.words)) c.size_of-size.ensures.value ∙ sym c.blocks_of-count.ensures.value in
-    omega (arith, same)
+invariant_of-result-clause-listed c = search (rules, arith)
 
 pub invariant_of-result-clause-few : goal.invariant_of-result-clause-few
-invariant_of-result-clause-few c =
-    let same : div_ceil c.size_of-size.result (4 * c.args.self.now.map.words) ≡ c.blocks_of-count.result = ap (λ n. div_ceil n (4 * c.args.self.now.map.words)) c.size_of-size.ensures.value ∙ sym c.blocks_of-count.ensures.value in
-    omega (arith, same)
+invariant_of-result-clause-few c = search (rules, arith)
 
 pub invariant_of-result-clause-below : goal.invariant_of-result-clause-below
 invariant_of-result-clause-below c = λ k lt.

@@ -1,13 +1,10 @@
-use Rattle.std.proofs.Common.{◌*◌, ◌/◌, ◌<◌, length, sym, ◌∙◌, arith}
+use Rattle.std.proofs.Common.{◌/◌, ◌<◌, length, sym, ◌∙◌, arith, rules}
 use Rattle.pe_pdb.specs.Places.{directory_block, map_block}
 use Rattle.pe_pdb.proofs.Blocks.{all_each, block_counted, blocks_few, blocks_inside, one_block, words_small, words_some}
 use Rattle.pe_pdb.proofs.file.Msf.with_directory.Goals as goal
 
 pub invariant_of-map-clause-few : goal.invariant_of-map-clause-few
-invariant_of-map-clause-few c =
-    let few = blocks_few (c.args.header.now.directory_size / 4) (c.args.header.now.block_size / 4) in
-    let is = c.div_ceil-count.ensures in
-    grind arith
+invariant_of-map-clause-few c = search (rules, arith, blocks_few)
 
 pub invariant_of-map-clause-has_words : goal.invariant_of-map-clause-has_words
 invariant_of-map-clause-has_words c = words_some c.args.header.now.block_size c.requires.size
@@ -19,11 +16,7 @@ pub invariant_of-map-clause-in_file : goal.invariant_of-map-clause-in_file
 invariant_of-map-clause-in_file c = blocks_inside c.args.header.now.block_size c.args.header.now.number_of_blocks (length c.args.bytes.now) c.requires.size c.requires.inside
 
 pub invariant_of-map-clause-in_superblock : goal.invariant_of-map-clause-in_superblock
-invariant_of-map-clause-in_superblock c =
-    let inside = blocks_inside c.args.header.now.block_size c.args.header.now.number_of_blocks (length c.args.bytes.now) c.requires.size c.requires.inside in
-    let one = one_block c.args.header.now.number_of_blocks (4 * (c.args.header.now.block_size / 4)) (length c.args.bytes.now) (grind arith) inside in
-    let is = c.div_ceil-maps.ensures in
-    omega (arith, one, is)
+invariant_of-map-clause-in_superblock c = search (rules, arith, blocks_inside, one_block)
 
 pub invariant_of-map-clause-mapped : goal.invariant_of-map-clause-mapped
 invariant_of-map-clause-mapped c = λ k lt.

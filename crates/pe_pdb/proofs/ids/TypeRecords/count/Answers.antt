@@ -1,5 +1,5 @@
-use Rattle.std.proofs.Common.{◌≡◌, Err, arith, rules, ap, ◌∙◌}
-use Rattle.pe_pdb.specs.Ids.{count_of, start_of, types_view, whole_count}
+use Rattle.std.proofs.Common.{◌≡◌, Err, arith, rules}
+use Rattle.pe_pdb.specs.Ids.{count_of, types_view, whole_count}
 use Rattle.pe_pdb.specs.Refusals.{pdb_kind_of}
 use Rattle.pe_pdb.specs.Symbols.{symbol_view}
 use Rattle.pe_pdb.proofs.RecordStarts.{count_refused, count_whole, start_next, start_none}
@@ -23,8 +23,4 @@ loop-index-preserved c = record {
 }
 
 pub returns : goal.returns
-returns c =
-    let t = types_view c.args.self.now in
-    let number : c.len-count.result ≡ count_of t = c.len-count.ensures in
-    let end : c.len-count.result ≡ c.loop-index.index = omega (arith, c.loop-index-test.false, c.loop-index.invariant.few) in
-    count_whole t c.loop-index.next c.len-count.result number (ap (start_of t.records) end ∙ c.loop-index.invariant.at)
+returns c = search (rules, arith, count_whole)

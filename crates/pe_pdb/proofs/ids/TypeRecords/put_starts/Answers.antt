@@ -1,18 +1,13 @@
-use Rattle.std.proofs.Common.{◌≡◌, ◌<◌, length, Err, arith, rules, refl, ap, sym, ◌∙◌}
+use Rattle.std.proofs.Common.{◌≡◌, ◌<◌, length, Err, arith, rules, ◌∙◌}
 use Rattle.std.proofs.Math.ListN.{length-set}
-use Rattle.pe_pdb.specs.Ids.{count_of, start_of, starts_in, types_view}
+use Rattle.pe_pdb.specs.Ids.{count_of, starts_in, types_view}
 use Rattle.pe_pdb.specs.Refusals.{pdb_kind_of}
 use Rattle.pe_pdb.specs.Symbols.{symbol_view}
 use Rattle.pe_pdb.proofs.RecordStarts.{one_more_start, rest_left, start_next, start_none, starts_all, starts_refused}
 use Rattle.pe_pdb.proofs.ids.TypeRecords.put_starts.Goals as goal
 
 pub loop-index-init : goal.loop-index-init
-loop-index-init c = record {
-  at = start_none c.args.self.now.records.now;
-  starts = λ k d low. absurd (omega (arith, low));
-  same = refl;
-  rest = refl;
-}
+loop-index-init c = search (rules, arith, start_none)
 
 pub returns-in_err-record-clause-count : goal.returns-in_err-record-clause-count
 returns-in_err-record-clause-count c =
@@ -34,16 +29,10 @@ loop-index-preserved c =
     }
 
 pub returns-clause-count : goal.returns-clause-count
-returns-clause-count c =
-    let t = types_view c.args.self.now in
-    let number : c.len-count.result ≡ count_of t = c.len-count.ensures in
-    let end : c.loop-index.index ≡ count_of t = omega (arith, number, c.loop-index-test.false, c.loop-index.auto.index-end) in
-    starts_all (length c.args.room.now) t c.loop-index.next c.len-count.result (omega (arith, number, c.if-room-count.false)) number (ap (start_of t.records) (sym end) ∙ c.loop-index.invariant.at)
+returns-clause-count c = search (rules, arith, starts_all)
 
 pub returns-clause-starts : goal.returns-clause-starts
 returns-clause-starts c = λ k d low. c.loop-index.invariant.starts k d (omega (arith, low, c.loop-index-test.false))
 
 pub returns-clause-rest : goal.returns-clause-rest
-returns-clause-rest c =
-    let end : c.loop-index.index ≡ c.len-count.result = omega (arith, c.loop-index-test.false, c.loop-index.auto.index-end) in
-    (c.loop-index.invariant.same, rw (sym end) c.loop-index.invariant.rest)
+returns-clause-rest c = search (rules, arith)

@@ -1,4 +1,4 @@
-use Rattle.std.proofs.Common.{◌≡◌, ℕ, ◌-◌, ◌<◌, length, List, ◌∷◌, Result, Ok, Err, arith, rules, ap, sym, ◌∙◌}
+use Rattle.std.proofs.Common.{◌≡◌, ℕ, length, List, ◌∷◌, Result, Ok, Err, arith, rules, ap, sym, ◌∙◌}
 use Rattle.pe_pdb.specs.InlineSites.{followed, frames_in, no_scopes}
 use Rattle.pe_pdb.specs.Refusals.{PdbRefusal, pdb_kind_of}
 use Rattle.pe_pdb.specs.Symbols.{symbol_end, symbol_view, symbols}
@@ -8,12 +8,7 @@ use Rattle.pe_pdb.proofs.InlineWalks.{frames_end, frames_more, frames_refused}
 use Rattle.pe_pdb.proofs.inline_frames.InlineFramesIterator.next.Goals as goal
 
 pub returns-in-Err-clause-steps : goal.returns-in-Err-clause-steps
-returns-in-Err-clause-steps c =
-    let s = c.loop-self.self in
-    let b = s.bytes.now in
-    let kind = pdb_kind_of c.in-Err.error in
-    c.loop-self.invariant.same ∙ frames_refused s.offset s.scopes b s.next kind c.loop-self-test.true c.in-Err.ensures.value
-    ∙ ap (λ (l : List (Result InlineFrame PdbRefusal)). Err kind ∷ l) (sym (c.at.ensures.left ∙ frames_end s.offset _ b (length b) (omega arith)))
+returns-in-Err-clause-steps c = search (rules, arith, frames_refused, frames_end)
 
 pub returns-in-Err-step-clause-steps : goal.returns-in-Err-step-clause-steps
 returns-in-Err-step-clause-steps c =
@@ -39,17 +34,10 @@ loop-self-preserved-in-Over c =
     }
 
 pub at-requires-in-On : goal.at-requires-in-On
-at-requires-in-On c =
-    let s = c.loop-self.self in
-    let few = c.in-Ok-step.ensures.few c.in-On.scopes (ap (λ (k : Step). Ok k) c.in-On.is) in
-    let before = s.few in
-    omega (arith, c.in-Ok.ensures.start, few, before, c.end.ensures)
+at-requires-in-On c = search (rules, arith)
 
 pub loop-self-smaller : goal.loop-self-smaller
-loop-self-smaller c =
-    let s = c.loop-self.self in
-    let kept : length c.at-in-On.result.bytes.now ≡ length s.bytes.now = ap (λ r. length r.now) c.at-in-On.ensures.bytes in
-    omega (arith, c.in-Ok.ensures.start, kept, c.at-in-On.ensures.next, c.end.ensures, c.loop-self-test.true)
+loop-self-smaller c = search (rules, arith)
 
 pub loop-self-preserved : goal.loop-self-preserved
 loop-self-preserved c =
@@ -74,15 +62,7 @@ returns-in-Found-clause-steps c =
     ∙ ap (λ (l : List (Result InlineFrame PdbRefusal)). Ok c.in-Found.frame ∷ l) (sym (c.at-in-Found.ensures.left ∙ ap (λ (n : ℕ). frames_in s.offset no_scopes (symbols b n)) c.end-in-Found.ensures))
 
 pub returns-in-Found-clause-goes : goal.returns-in-Found-clause-goes
-returns-in-Found-clause-goes c =
-    let s = c.loop-self.self in
-    let kept : length c.at-in-Found.result.bytes.now ≡ length s.bytes.now = ap (λ r. length r.now) c.at-in-Found.ensures.bytes in
-    let lower : length c.at-in-Found.result.bytes.now - c.at-in-Found.result.next < length c.args.self.now.bytes.now - c.args.self.now.next =
-    omega (arith, c.in-Ok.ensures.start, kept, c.at-in-Found.ensures.next, c.end-in-Found.ensures, c.loop-self-test.true, c.loop-self.invariant.bound) in
-    search rules
+returns-in-Found-clause-goes c = search (rules, arith)
 
 pub returns-clause-steps : goal.returns-clause-steps
-returns-clause-steps c =
-    let s = c.loop-self.self in
-    let none = frames_end s.offset s.scopes s.bytes.now s.next (omega arith) in
-    (c.loop-self.invariant.same ∙ none, none)
+returns-clause-steps c = search (rules, arith, frames_end)

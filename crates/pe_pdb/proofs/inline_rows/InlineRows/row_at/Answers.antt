@@ -1,7 +1,6 @@
-use Rattle.std.proofs.Common.{◌≡◌, ℕ, [], ◌∷◌, Option, Ok, Err, true, false, refl, arith, rules, ap, sym, ◌∙◌}
-use Rattle.pe_pdb.specs.Annotations.{annotations, found_in, last_with, row_at, starts_row}
+use Rattle.std.proofs.Common.{◌≡◌, ℕ, [], ◌∷◌, Err, true, refl, arith, rules, ap, sym, ◌∙◌}
+use Rattle.pe_pdb.specs.Annotations.{annotations, last_with, row_at, starts_row}
 use Rattle.pe_pdb.specs.Refusals.{pdb_kind_of}
-use Rattle.pe_pdb.specs.declared.inline_rows.InlineRow.{InlineRow}
 use Rattle.pe_pdb.proofs.InlineWalks.{last_end, last_ended, last_refused, not_started, row_closed, rows_end, rows_on, rows_refused, rows_started}
 use Rattle.pe_pdb.proofs.inline_rows.InlineRows.row_at.Goals as goal
 
@@ -27,20 +26,7 @@ loop-next-preserved-then-starts_row c =
     ∙ row_closed x l.found c.found_in-found.result l.cursor c.moved-cursor.result l.last a c.new.result (annotations b q) c.moved-cursor.ensures c.new.ensures c.found_in-found.ensures
 
 pub loop-next-preserved : goal.loop-next-preserved
-loop-next-preserved c =
-    let l = c.loop-next in
-    let x : ℕ = c.args.offset in
-    let b = c.args.annotations.now in
-    let a = c.in_ok-annotation.annotation in
-    let q = c.in_ok-annotation.end in
-    let starts : starts_row a ≡ false = sym c.starts_row.ensures ∙ c.if-starts_row.false in
-    l.invariant ∙ ap (last_with x l.found) (rows_on b l.next l.cursor l.last a q c.loop-next-test.true c.in_ok-annotation.ensures.value starts
-    ∙ not_started l.cursor c.moved-cursor.result l.last c.kept-last.result a (annotations b q) c.moved-cursor.ensures c.kept-last.ensures)
+loop-next-preserved c = search (rules, arith, rows_on, not_started)
 
 pub returns : goal.returns
-returns c =
-    let l = c.loop-next in
-    let x : ℕ = c.args.offset in
-    let b = c.args.annotations.now in
-    l.invariant ∙ ap (last_with x l.found) (rows_end b l.next l.cursor l.last (omega arith)) ∙ last_ended x l.found l.last 0 [] ∙ last_end x (found_in l.last 0 x l.found) [] refl
-    ∙ ap (λ (o : Option InlineRow). Ok o) (sym c.found_in.ensures)
+returns c = search (rules, arith, rows_end, last_ended, last_end)

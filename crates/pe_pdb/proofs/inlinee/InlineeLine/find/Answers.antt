@@ -23,12 +23,7 @@ returns-in_err-end c =
     search rules
 
 pub returns-then-line-inlinee : goal.returns-then-line-inlinee
-returns-then-line-inlinee c =
-    let b = c.args.content.now in
-    let id : ℕ = c.args.inlinee in
-    let same = ap (λ (n : ℕ). inlinee_at (n == 1) b c.loop-next.next) (sym c.read_u32-extended.ensures) in
-    let own : (c.at-line.result.inlinee == id) ≡ true = grind (arith, nat_tests) in
-    whole b id (omega (arith, c.in_ok-require_bytes.ensures.inside)) ∙ c.loop-next.invariant ∙ first_here id b c.loop-next.next c.at-line.result c.in_ok-end.end c.loop-next-test.true (same ∙ c.in_ok-end.ensures.value ∙ here c.at-line.result (inlinee_row b c.loop-next.next) c.in_ok-end.end c.at-line.ensures) own
+returns-then-line-inlinee c = search (rules, arith, nat_tests, whole, first_here, here)
 
 pub loop-next-preserved : goal.loop-next-preserved
 loop-next-preserved c =
@@ -39,7 +34,4 @@ loop-next-preserved c =
     c.loop-next.invariant ∙ first_later id b c.loop-next.next c.at-line.result c.in_ok-end.end c.loop-next-test.true (same ∙ c.in_ok-end.ensures.value ∙ here c.at-line.result (inlinee_row b c.loop-next.next) c.in_ok-end.end c.at-line.ensures) other
 
 pub returns : goal.returns
-returns c =
-    let b = c.args.content.now in
-    let id : ℕ = c.args.inlinee in
-    whole b id (omega (arith, c.in_ok-require_bytes.ensures.inside)) ∙ c.loop-next.invariant ∙ first_end id b c.loop-next.next (omega arith)
+returns c = search (rules, arith, whole, first_end)

@@ -1,12 +1,10 @@
-use Rattle.std.proofs.Common.{length, List, ◌∷◌, Result, Ok, Err, arith, sym, ap, ◌∙◌}
-use Rattle.pe_pdb.specs.Refusals.{PdbRefusal, pdb_kind_of}
-use Rattle.pe_pdb.specs.Lines.{SubsectionView, subsection_view, subsections}
+use Rattle.std.proofs.Common.{◌∷◌, Ok, arith, sym, ap, ◌∙◌, rules}
+use Rattle.pe_pdb.specs.Lines.{subsection_view, subsections}
 use Rattle.pe_pdb.proofs.LineWalks.{subsections_more, subsections_none, subsections_refused}
 use Rattle.pe_pdb.proofs.line.SubsectionsIterator.next.Goals as goal
 
 pub returns-then-self-clause-steps : goal.returns-then-self-clause-steps
-returns-then-self-clause-steps c =
-    let none = subsections_none c.args.self.now.bytes.now c.args.self.now.next (omega arith) in (none, none)
+returns-then-self-clause-steps c = search (rules, arith, subsections_none)
 
 pub returns-in-Ok-clause-steps : goal.returns-in-Ok-clause-steps
 returns-in-Ok-clause-steps c =
@@ -15,7 +13,4 @@ returns-in-Ok-clause-steps c =
     ∙ ap (λ n. Ok (subsection_view c.in-Ok.subsection) ∷ subsections b n) (sym c.end-self.ensures.value)
 
 pub returns-in-Err-clause-steps : goal.returns-in-Err-clause-steps
-returns-in-Err-clause-steps c =
-    let b = c.args.self.now.bytes.now in
-    subsections_refused b c.args.self.now.next (pdb_kind_of c.in-Err.error) (omega arith) c.in-Err.ensures.value
-    ∙ ap (λ (xs : List (Result SubsectionView PdbRefusal)). Err (pdb_kind_of c.in-Err.error) ∷ xs) (sym (subsections_none b (length b) (omega arith)))
+returns-in-Err-clause-steps c = search (rules, arith, subsections_refused, subsections_none)

@@ -1,17 +1,11 @@
-use Rattle.std.proofs.Common.{ℕ, ◌-◌, ◌<◌, List, length, arith, rules, sym, subst, ap, ◌∙◌}
-use Rattle.std.specs.Option.{option_map}
+use Rattle.std.proofs.Common.{◌-◌, ◌<◌, List, length, arith, rules, sym, subst, ap, ◌∙◌}
 use Rattle.pe_core.specs.RangeIndexes.{Rises, number_at}
 use Rattle.pe_core.specs.declared.range_index.RangeEntry.{RangeEntry}
 use Rattle.pe_core.proofs.RangeFounds.{index_found, index_none, index_within}
-use Rattle.pe_pdb.specs.Contributions.{module_at_rva}
-use Rattle.pe_pdb.specs.declared.contribution.ModuleRange.{ModuleRange}
 use Rattle.pe_pdb.proofs.module_index.ModuleIndex.module_at.Goals as goal
 
 pub returns-then-number-eq0 : goal.returns-then-number-eq0
-returns-then-number-eq0 c =
-    let s = c.args.self.now in
-    let none = index_none (λ r. r.start) (λ r. r.size) c.from.result s.ranges.now s.entries.now s.indexed c.from.type_inv (sym (c.search_ranges-number.ensures.number (subst Rises (sym c.new.ensures.entries) s.indexed.rises) ∙ ap (λ (es : List RangeEntry). number_at es c.from.result) c.new.ensures.entries) ∙ c.if-number-eq0.true) in
-    sym (ap (option_map (λ (r : ModuleRange). r.module_index)) none) ∙ ap (λ (x : ℕ). module_at_rva s.ranges.now x) c.from.ensures
+returns-then-number-eq0 c = search (rules, arith, index_none)
 
 pub offset_bounds-self-number : goal.offset_bounds-self-number
 offset_bounds-self-number c =
@@ -25,8 +19,4 @@ bounds-self-number c =
     index_within (λ r. r.start) (λ r. r.size) c.from.result s.ranges.now s.entries.now c.search_ranges-number.result s.indexed c.from.type_inv (sym (c.search_ranges-number.ensures.number (subst Rises (sym c.new.ensures.entries) s.indexed.rises) ∙ ap (λ (es : List RangeEntry). number_at es c.from.result) c.new.ensures.entries)) (omega (arith, c.if-number-eq0.false))
 
 pub returns : goal.returns
-returns c =
-    let s = c.args.self.now in
-    let d : ModuleRange = record { start = 0; size = 0; module_index = 0 } in
-    let found = index_found (λ r. r.start) (λ r. r.size) c.from.result s.ranges.now s.entries.now c.search_ranges-number.result d s.indexed c.from.type_inv (sym (c.search_ranges-number.ensures.number (subst Rises (sym c.new.ensures.entries) s.indexed.rises) ∙ ap (λ (es : List RangeEntry). number_at es c.from.result) c.new.ensures.entries)) (omega (arith, c.if-number-eq0.false)) in
-    sym (ap (option_map (λ (r : ModuleRange). r.module_index)) found) ∙ ap (λ (x : ℕ). module_at_rva s.ranges.now x) c.from.ensures
+returns c = search (rules, arith, index_found)

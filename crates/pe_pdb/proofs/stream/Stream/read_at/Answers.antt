@@ -1,16 +1,10 @@
-use Rattle.std.proofs.Common.{◌≡◌, ◌+◌, ◌≤◌, length, arith}
+use Rattle.std.proofs.Common.{◌≡◌, ◌+◌, ◌≤◌, length, arith, rules}
 use Rattle.pe_pdb.specs.Streams.{stream_bytes, stream_view}
 use Rattle.pe_pdb.proofs.StreamBytes.{copied, copied_more, length_stream}
 use Rattle.pe_pdb.proofs.stream.Stream.read_at.Goals as goal
 
 pub loop-done-preserved : goal.loop-done-preserved
-loop-done-preserved c =
-    let s = stream_view c.args.self.now in
-    let size = length_stream s in
-    let length = c.piece_at-piece.ensures.length in
-    let is = c.min-length.ensures in
-    copied_more (stream_bytes s) c.loop-done.room c.set_slice.new.buffer c.piece_at-piece.result.now c.args.offset c.loop-done.done c.min-length.result c.set_slice.ensures
-    (grind arith) (grind arith) (grind arith) (grind arith) c.loop-done.invariant.1
+loop-done-preserved c = search (rules, arith, length_stream, copied_more)
 
 pub returns : goal.returns
 returns c =
