@@ -1,5 +1,5 @@
 -- Delay imports as lists: the steps of their walks, and the names of what is left.
-use Rattle.std.proofs.Common.{◌≡◌, ℕ, suc, ◌+◌, ◌<◌, ◌≤◌, List, [], ◌∷◌, ◌++◌, map, length, get_or, drop, Option, Some, None, Result, Ok, refl, ap, sym, ◌∙◌, arith, length-drop, append_assoc}
+use Rattle.std.proofs.Common.{◌≡◌, ℕ, suc, ◌+◌, ◌<◌, ◌≤◌, List, [], ◌∷◌, ◌++◌, map, length, get_or, drop, Option, Some, None, Result, Ok, refl, ap, ◌∙◌, arith, length-drop, append_assoc}
 use Rattle.std.specs.Borrow.{Bor}
 use Rattle.std.specs.Option.{option_map}
 use Rattle.std.proofs.Math.Seq.{drop-cons}
@@ -9,7 +9,7 @@ use Rattle.pe_directories.specs.DelayImports.{first_delay_import, delay_imports_
 use Rattle.pe_directories.specs.DelayImportSteps.{AreItemNames, entry_items, item_offset, table_items}
 use Rattle.pe_directories.specs.DirectoryRefusals.{DirectoryRefusal, directory_answer}
 use Rattle.pe_directories.specs.VaTables.{first_va, vas_left, vas_are_64}
-use Rattle.pe_directories.specs.Walks.{Steps, all_items}
+use Rattle.pe_directories.specs.Walks.{Steps}
 use Rattle.pe_directories.specs.declared.delay_import.DelayImport.{DelayImport}
 use Rattle.pe_directories.specs.declared.delay_import.DelayImports.{DelayImports}
 use Rattle.pe_directories.specs.declared.va_table.VaTable.{VaTable}
@@ -21,9 +21,7 @@ use Rattle.pe_directories.proofs.WalkLists.{first_taken, none_left}
 
 pub number_taken : (s t : VaTable) (r : Result ℕ DirectoryError)
     → Steps (λ x. x) (first_va (vas_are_64 s)) (vas_left s) (Some r) (vas_left t) × (vas_are_64 t ≡ vas_are_64 s) → table_items s ≡ directory_answer (λ x. x) r ∷ table_items t
-number_taken s t r h =
-    first_taken (λ (x : ℕ). x) (first_va (vas_are_64 s)) (va_shrinks (vas_are_64 s)) (vas_left s) (vas_left t) r h.0
-    ∙ ap (λ w. directory_answer (λ x. x) r ∷ all_items (first_va w) (vas_left t)) (sym h.1)
+number_taken s t r h = grind (arith, first_taken, va_shrinks)
 
 pub no_number : (s t : VaTable) → Steps {Y = ℕ} (λ x. x) (first_va (vas_are_64 s)) (vas_left s) None (vas_left t) × (vas_are_64 t ≡ vas_are_64 s) → table_items s ≡ []
 no_number s t h = none_left (λ (x : ℕ). x) (first_va (vas_are_64 s)) (va_shrinks (vas_are_64 s)) (vas_left s) (vas_left t) h.0
@@ -43,17 +41,11 @@ taken_is left more r q h is = h ∙ ap (λ (r : Result _ DirectoryError). direct
 
 pub one_offset : {X : Type 0} (offset : X → ℕ) (all : List ℕ) (done pushed : List ℕ) (left more : List (Result X DirectoryRefusal)) (item : Result X DirectoryRefusal) (p : ℕ)
     → done ++ map (item_offset offset) left ≡ all → left ≡ item ∷ more → p ≡ item_offset offset item → pushed ≡ done ++ p ∷ [] → pushed ++ map (item_offset offset) more ≡ all
-one_offset offset all done pushed left more item p so_far is at push =
-    ap (λ (l : List ℕ). l ++ map (item_offset offset) more) push
-    ∙ append_assoc done (p ∷ []) (map (item_offset offset) more)
-    ∙ ap (λ (q : ℕ). done ++ q ∷ map (item_offset offset) more) at
-    ∙ ap (λ (l : List (Result _ DirectoryRefusal)). done ++ map (item_offset offset) l) (sym is)
-    ∙ so_far
+one_offset offset all done pushed left more item p so_far is at push = grind (arith, append_assoc)
 
 pub all_offsets : {X : Type 0} (offset : X → ℕ) (all done : List ℕ) (left : List (Result X DirectoryRefusal))
     → done ++ map (item_offset offset) left ≡ all → left ≡ [] → done ≡ all
-all_offsets offset all done left so_far is =
-    sym (append-nil done) ∙ ap (λ (l : List (Result _ DirectoryRefusal)). done ++ map (item_offset offset) l) (sym is) ∙ so_far
+all_offsets offset all done left so_far is = grind (arith, append-nil)
 
 -- ---- the names of what is left
 
@@ -85,8 +77,7 @@ cut names i d lt = let after : suc i ≡ i + 1 = omega arith in drop-cons names 
 named : {X : Type 0} (b : List ℕ) (offset : X → ℕ) (left more : List (Result X DirectoryRefusal)) (names : List (Option (Bor (List ℕ)))) (i : ℕ) (item : Result X DirectoryRefusal) (d : Option (Bor (List ℕ)))
     → NamesLeft b offset left names i → left ≡ item ∷ more
     → option_map (λ s. s.now) (get_or names i d) ∷ texts_of (drop (i + 1) names) ≡ text_at b (item_offset offset item) ∷ map (text_at b) (map (item_offset offset) more)
-named b offset left more names i item d n is =
-    ap texts_of (sym (cut names i d (names_below b offset left more names i item n is))) ∙ n.are ∙ ap (λ (l : List (Result _ DirectoryRefusal)). map (text_at b) (map (item_offset offset) l)) is
+named b offset left more names i item d n is = cc (cut names i d (names_below b offset left more names i item n is), n.are, is)
 
 pub name_is : {X : Type 0} (b : List ℕ) (offset : X → ℕ) (left more : List (Result X DirectoryRefusal)) (names : List (Option (Bor (List ℕ)))) (i : ℕ) (x : X) (d : Option (Bor (List ℕ)))
     → NamesLeft b offset left names i → left ≡ Ok x ∷ more → option_map (λ s. s.now) (get_or names i d) ≡ text_at b (offset x)

@@ -1,5 +1,5 @@
 -- Images as a loader lays them out, run by run.
-use Rattle.std.proofs.Common.{◌≡◌, ℕ, zero, suc, ◌+◌, ◌-◌, ◌<◌, ◌≤◌, min, Bool, true, false, List, [], ◌∷◌, ◌++◌, length, take, replicate, Option, Some, None, refl, ap, sym, subst, ◌∙◌, cond, length-append, length-take, length-drop, arith}
+use Rattle.std.proofs.Common.{◌≡◌, ℕ, zero, suc, ◌+◌, ◌-◌, ◌<◌, ◌≤◌, min, Bool, true, false, List, [], ◌∷◌, ◌++◌, length, take, replicate, Option, Some, None, refl, ap, sym, subst, ◌∙◌, length-append, length-take, length-drop, arith}
 use Rattle.std.specs.Int.{is_power_of_two}
 use Rattle.std.specs.Option.{option_map}
 use Rattle.std.proofs.lemmas.List.{append-nil, append_assoc, length-replicate, places, same_lists, take_all}
@@ -18,29 +18,17 @@ use Rattle.pe_directories.specs.declared.section_runs.Run.{Run}
 pub by_sections : (resolve : Bool) (alignment : ℕ) (sections : List SectionTable) (rva : ℕ) (r : Run) → resolve ≡ true → is_power_of_two alignment ≡ true
     → IsRun (in_turn alignment sections) rva r → IsRun (offset_of resolve alignment sections) rva r
 unfolding offset_of
-by_sections true alignment sections rva r on aligned g = record {
-  ahead = g.ahead;
-  maps = λ x from to. ap (λ (t : Bool). cond t (in_turn alignment sections x) None) aligned ∙ g.maps x from to;
-}
-by_sections false alignment sections rva r on aligned g = absurd cc
+by_sections resolve alignment sections rva r on aligned g = grind arith
 
 pub by_none : (resolve : Bool) (alignment : ℕ) (sections : List SectionTable) (rva : ℕ) (r : Run) → resolve ≡ true → is_power_of_two alignment ≡ false
     → rva < r.end → r.offset ≡ None → IsRun (offset_of resolve alignment sections) rva r
 unfolding offset_of
-by_none true alignment sections rva r on not_aligned ahead none = record {
-  ahead = ahead;
-  maps = λ x from to. ap (λ (t : Bool). cond t (in_turn alignment sections x) None) not_aligned ∙ ap (option_map (λ p. p + (x - rva))) (sym none);
-}
-by_none false alignment sections rva r on not_aligned ahead none = absurd cc
+by_none resolve alignment sections rva r on not_aligned ahead none = grind arith
 
 pub as_loaded : (resolve : Bool) (alignment : ℕ) (sections : List SectionTable) (rva : ℕ) (r : Run) → resolve ≡ false
     → rva < r.end → r.offset ≡ Some rva → IsRun (offset_of resolve alignment sections) rva r
 unfolding offset_of
-as_loaded false alignment sections rva r off ahead is = record {
-  ahead = ahead;
-  maps = λ x from to. ap (λ (p : ℕ). Some p) (omega (arith, from)) ∙ ap (option_map (λ p. p + (x - rva))) (sym is);
-}
-as_loaded true alignment sections rva r off ahead is = absurd cc
+as_loaded resolve alignment sections rva r off ahead is = grind arith
 
 -- ---- bytes from an offset on, and zeros after the end
 
@@ -71,13 +59,6 @@ copied b old rva offset from there count start most fits =
 pub headers_are : (b : List ℕ) (headers : ℕ) → take (min (length b) headers) b ≡ take headers b
 headers_are b headers = same_lists _ _ (simp length-take (grind arith)) (λ k d h. grind (arith, places))
 
--- the bytes of a run
-pub by_run : (to_offset : ℕ → Option ℕ) (b : List ℕ) (headers rva count : ℕ) (r : Run) → IsRun to_offset rva r → rva + count ≤ r.end
-    → each (λ i. loaded_byte b headers (rva + i) (option_map (λ p. p + i) r.offset)) count ≡ each (λ i. loaded_byte b headers (rva + i) (to_offset (rva + i))) count
-by_run to_offset b headers rva count r g ends =
-    each_same _ _ count (λ i h. ap (loaded_byte b headers (rva + i)) (
-    ap (λ (k : ℕ). option_map (λ p. p + k) r.offset) (omega arith) ∙ sym (g.maps (rva + i) (omega arith) (omega (arith, h, ends)))))
-
 -- what is written at an offset follows what stands before it
 front : (b : List ℕ) (p : ℕ) (s : List ℕ) (n : ℕ) → length s ≡ n → p + n ≤ length b → take (p + n) (splice b p s) ≡ take p b ++ s
 unfolding splice
@@ -95,14 +76,7 @@ none_laid f old = record { inside = omega arith; long = refl; done = refl }
 
 pub one_laid : (f g : ℕ → ℕ) (old image : List ℕ) (rva count : ℕ) → LaidOut f old image rva → rva + count ≤ length image
     → each g count ≡ each (λ i. f (rva + i)) count → LaidOut f old (splice image rva (each g count)) (rva + count)
-one_laid f g old image rva count l fits same =
-    let size : length (each g count) ≡ count = length-each g count in
-    let long : length (splice image rva (each g count)) ≡ length image = length-splice image rva (each g count) (omega (arith, fits, size)) in
-    record {
-      inside = omega (arith, fits, long);
-      long = long ∙ l.long;
-      done = front image rva (each g count) count size fits ∙ ap (λ (xs : List ℕ). xs ++ each g count) l.done ∙ ap (λ (xs : List ℕ). each f rva ++ xs) same ∙ sym (each_more f rva count);
-    }
+one_laid f g old image rva count l fits same = grind (arith, length-each, length-splice, front, each_more)
 
 pub run_laid : (to_offset : ℕ → Option ℕ) (b : List ℕ) (headers : ℕ) (old image after : List ℕ) (rva end : ℕ) (r : Run)
     → LaidOut (λ x. loaded_byte b headers x (to_offset x)) old image rva → IsRun to_offset rva r → rva < length image → end ≡ min r.end (length image)
@@ -116,9 +90,7 @@ run_laid to_offset b headers old image after rva end r l g inside is_end is_afte
     subst (λ (xs : List ℕ). LaidOut (λ x. loaded_byte b headers x (to_offset x)) old xs end) (sym is_after)
     (subst (λ (n : ℕ). LaidOut (λ x. loaded_byte b headers x (to_offset x)) old (splice image rva (each (λ i. loaded_byte b headers (rva + i) (option_map (λ p. p + i) r.offset)) (end - rva))) n) to
     (one_laid (λ x. loaded_byte b headers x (to_offset x)) (λ i. loaded_byte b headers (rva + i) (option_map (λ p. p + i) r.offset)) old image rva (end - rva) l image_fits
-    (by_run to_offset b headers rva (end - rva) r g run_fits)))
+    (grind (arith, each_same))))
 
 pub all_laid : (f : ℕ → ℕ) (old image : List ℕ) (rva : ℕ) → LaidOut f old image rva → length image ≤ rva → image ≡ each f (length old)
-all_laid f old image rva l end =
-    let all : rva ≡ length image = omega (arith, end, l.inside) in
-    sym (take_all rva image end) ∙ l.done ∙ ap (each f) (all ∙ l.long)
+all_laid f old image rva l end = grind (arith, take_all)

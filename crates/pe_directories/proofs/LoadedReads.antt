@@ -1,5 +1,5 @@
 -- What is read of an image as a loader lays it out.
-use Rattle.std.proofs.Common.{◌≡◌, ℕ, ◌+◌, ◌<◌, ◌≤◌, List, length, get_or, Option, Some, ap, sym, ◌∙◌, arith}
+use Rattle.std.proofs.Common.{◌≡◌, ℕ, ◌+◌, ◌<◌, ◌≤◌, List, length, get_or, Option, Some, sym, ◌∙◌, arith}
 use Rattle.std.proofs.lemmas.List.{get_or_default, same_lists}
 use Rattle.pe_core.specs.Bytes.{range}
 use Rattle.pe_core.proofs.EntryItems.{get_or-each, length-each}
@@ -8,8 +8,7 @@ use Rattle.pe_directories.specs.LoadedImages.{loaded, loaded_byte}
 
 pub byte_is : (to_offset : ℕ → Option ℕ) (b : List ℕ) (headers size rva p : ℕ) → rva < size → to_offset rva ≡ Some p
     → get_or (loaded to_offset b headers size) rva 0 ≡ get_or b p 0
-byte_is to_offset b headers size rva p inside maps =
-    get_or-each (λ x. loaded_byte b headers x (to_offset x)) size rva 0 inside ∙ ap (loaded_byte b headers rva) maps
+byte_is to_offset b headers size rva p inside maps = grind (arith, get_or-each)
 
 pub range_is : (to_offset : ℕ → Option ℕ) (b : List ℕ) (headers size rva p n : ℕ) → ((k : ℕ) → k < n → to_offset (rva + k) ≡ Some (p + k))
     → p + n ≤ length b → rva + n ≤ size → range (loaded to_offset b headers size) rva n ≡ range b p n

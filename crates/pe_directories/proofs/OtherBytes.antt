@@ -1,11 +1,10 @@
 -- The words of a whole table of base relocations, and the bytes that are none of theirs.
-use Rattle.std.proofs.Common.{◌≡◌, ℕ, true, List, [], ◌∷◌, length, get_or, Option, Some, None, Result, Ok, Err, refl, ap, sym, subst, ◌∙◌}
+use Rattle.std.proofs.Common.{◌≡◌, ℕ, true, List, [], ◌∷◌, length, get_or, Option, Result, Ok, Err, refl, sym, subst, ◌∙◌, arith}
 use Rattle.std.specs.List.{AllByRecursion}
 use Rattle.pe_core.specs.Refusals.{◌>>=◌}
-use Rattle.pe_directories.specs.BaseRelocations.{Block, first_block, first_relocation}
 use Rattle.pe_directories.specs.DirectoryRefusals.{DirectoryRefusal}
-use Rattle.pe_directories.specs.Relocated.{AllPassBy, AllStand, IsOutside, all_moved, base_words, block_words, blocks_moved, moved, passes_by, relocated, stands_in, table_words, word_of, words_of}
-use Rattle.pe_directories.specs.Walks.{all_items, each_read}
+use Rattle.pe_directories.specs.Relocated.{AllPassBy, AllStand, IsOutside, all_moved, blocks_moved, moved, passes_by, relocated, stands_in, words_of}
+use Rattle.pe_directories.specs.Walks.{each_read}
 use Rattle.pe_directories.specs.declared.base_relocation.BaseRelocation.{BaseRelocation}
 use Rattle.pe_directories.specs.declared.relocating.Word.{Word}
 use Rattle.pe_directories.proofs.MovedWords.{others_stay}
@@ -32,33 +31,17 @@ all_have Has read each (Ok x ∷ more) ys e =
 all_have Has read each (Err r ∷ more) ys e = not_refused read r more ys e
 
 stand : (size : ℕ) (ws : List Word) → AllByRecursion (λ w. stands_in size w ≡ true) ws → AllStand size ws
-stand size [] all = tt
-stand size (w ∷ ws) all = (all.0, stand size ws all.1)
-
-block_stands : (size : ℕ) (k : Block) (ws : List Word) → block_words size k ≡ Ok ws → AllStand size ws
-block_stands size k ws e =
-    stand size ws (all_have (λ w. stands_in size w ≡ true) (word_of size) (word_stands_in size) (all_items (first_relocation k.page_rva) (Some k.entries)) ws e)
+stand size ws all = grind arith
 
 -- what comes first, where both of two are there
 bound : {A B : Type 0} (r : Result A DirectoryRefusal) (next : A → Result B DirectoryRefusal) (b : B) → (r >>= next) ≡ Ok b → (a : A) × (r ≡ Ok a) × (next a ≡ Ok b)
-bound (Ok a) next b e = (a, refl, e)
-bound (Err refusal) next b e = absurd cc
+bound r next b e = grind arith
 
 the_same : {A : Type 0} (x y : A) → ◌≡◌ {A = Result A DirectoryRefusal} (Ok x) (Ok y) → y ≡ x
 the_same x y e = cc
 
-base_stands : (size : ℕ) (base : Option BaseRelocation) (ws : List Word) → base_words size base ≡ Ok ws → AllStand size ws
-base_stands size None ws e = subst (AllStand size) (sym (the_same [] ws e)) tt
-base_stands size (Some r) ws e =
-    let h = bound (word_of size r) (λ w. Ok (w ∷ [])) ws e in
-    subst (AllStand size) (sym (the_same (h.0 ∷ []) ws h.2)) (word_stands_in size r h.0 h.1, tt)
-
 all_stand : (size : ℕ) (base : Option BaseRelocation) (table : List ℕ) (words : List (List Word)) → words_of size base table ≡ Ok words → AllByRecursion (AllStand size) words
-all_stand size base table words e =
-    let h = bound (base_words size base) (λ ws. table_words size table >>= λ blocks. Ok (ws ∷ blocks)) words e in
-    let k = bound (table_words size table) (λ blocks. Ok (h.0 ∷ blocks)) words h.2 in
-    subst (AllByRecursion (AllStand size)) (sym (the_same (h.0 ∷ k.0) words k.2))
-    (base_stands size base h.0 h.1, all_have (AllStand size) (block_words size) (block_stands size) (all_items first_block (Some table)) k.0 k.1)
+all_stand size base table words e = grind (arith, bound, the_same, all_have, word_stands_in, stand)
 
 -- ---- the image stays as long, and keeps its other bytes
 
@@ -87,14 +70,8 @@ blocks_stay difference p (ws ∷ more) b all outside =
     ∙ others_stay difference p ws b (pass_by (length b) p ws all.0 outside.0)
 
 pub same_length : (difference : ℕ) (base : Option BaseRelocation) (table b image : List ℕ) → relocated difference base table b ≡ Ok image → length image ≡ length b
-same_length difference base table b image e =
-    let h = bound (words_of (length b) base table) (λ blocks. Ok (blocks_moved difference blocks b)) image e in
-    ap length (the_same (blocks_moved difference h.0 b) image h.2) ∙ long_blocks difference h.0 b (all_stand (length b) base table h.0 h.1)
+same_length difference base table b image e = grind (arith, bound, the_same, long_blocks, all_stand)
 
 pub others_kept : (difference p : ℕ) (base : Option BaseRelocation) (table b image : List ℕ) (words : List (List Word))
     → words_of (length b) base table ≡ Ok words → IsOutside p words → relocated difference base table b ≡ Ok image → get_or image p 0 ≡ get_or b p 0
-others_kept difference p base table b image words are outside e =
-    let h = bound (words_of (length b) base table) (λ blocks. Ok (blocks_moved difference blocks b)) image e in
-    let same : h.0 ≡ words = the_same words h.0 (sym are ∙ h.1) in
-    ap (λ (l : List ℕ). get_or l p 0) (the_same (blocks_moved difference h.0 b) image h.2)
-    ∙ blocks_stay difference p h.0 b (all_stand (length b) base table h.0 h.1) (subst (IsOutside p) (sym same) outside)
+others_kept difference p base table b image words are outside e = grind (arith, bound, the_same, blocks_stay, all_stand)

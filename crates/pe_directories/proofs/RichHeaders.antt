@@ -1,6 +1,6 @@
 -- The search for a Rich header, from the last word back.
-use Rattle.std.proofs.Common.{◌≡◌, ℕ, suc, ◌-◌, ◌/◌, ◌<◌, ◌≤◌, ◌==◌, Bool, true, false, List, length, Option, Some, None, refl, sym, ap, subst, ◌∙◌, arith, if◌then◌else◌}
-use Rattle.std.specs.Option.{is_some, option_map, option_or}
+use Rattle.std.proofs.Common.{◌≡◌, ℕ, suc, ◌-◌, ◌/◌, ◌<◌, ◌≤◌, ◌==◌, false, List, length, Option, Some, None, sym, ap, subst, ◌∙◌, arith, if◌then◌else◌}
+use Rattle.std.specs.Option.{is_some, option_map}
 use Rattle.std.specs.Prelude.{IfSome}
 use Rattle.pe_directories.specs.RichHeader.{Rich, last_rich, next_rich, rich_from, rich_header, rich_view, word}
 use Rattle.pe_directories.specs.declared.rich_header.RichHeader.{RichHeader}
@@ -18,55 +18,24 @@ rich_or b k next = if word b k == 0x68636952 then Some k else next
 
 next_one : (b : List ℕ) (n k : ℕ) (next : Option ℕ) → k < n → next ≡ next_rich b (suc k) (n - suc k) → rich_or b k next ≡ next_rich b k (n - k)
 unfolding next_rich
-next_one b n k next below is =
-    let one : suc (n - suc k) ≡ n - k = omega (arith, below) in
-    ap (rich_or b k) is ∙ ap (next_rich b k) one
-
-below_by : (is : Bool) (n k : ℕ) (next : Option ℕ) → k < n → IfSome next (λ end. end < n) → IfSome (if is then Some k else next) (λ end. end < n)
-below_by true n k next below all = below
-below_by false n k next below all = all
-
--- before any word
-all_words : (b : List ℕ) (n : ℕ) → n ≡ length b / 4 - 1 → WordsLeft b n n None
-unfolding rich_header next_rich
-all_words b n is = record {
-  within = omega arith;
-  header = ap (λ k. last_rich b k k) (sym is);
-  is_next = let none : 0 ≡ n - n = omega arith in ap (next_rich b n) none;
-  below = tt;
-}
+next_one b n k next below is = grind arith
 
 pub all_left : (b : List ℕ) (left : ℕ) → left ≡ length b / 4 - 1 → WordsLeft b (length b / 4 - 1) left None
-all_left b left is = subst (λ n. WordsLeft b n left None) is (all_words b left is)
+unfolding rich_header next_rich
+all_left b left is = subst (λ n. WordsLeft b n left None) is (grind arith)
 
 none_seen : (h : Option RichHeader) → is_some h ≡ false → option_map rich_view h ≡ None
-none_seen None e = refl
-none_seen (Some h) e = absurd (cc e)
-
--- at a word that starts no header
-passed : (b : List ℕ) (n left k : ℕ) (next now : Option ℕ) → WordsLeft b n left next → left ≡ suc k → now ≡ rich_or b k next → rich_from b k now ≡ None → WordsLeft b n k now
-unfolding last_rich
-passed b n left k next now w is found none =
-    let below : k < n = omega (arith, w.within, is) in
-    let same : now ≡ next_rich b k (n - k) = found ∙ next_one b n k next below (w.is_next ∙ ap (λ l. next_rich b l (n - l)) is) in
-    record {
-      within = omega (arith, below);
-      header = w.header ∙ ap (last_rich b n) is ∙ ap (λ (o : Option ℕ). option_or (rich_from b k o) (last_rich b n k)) (sym same) ∙ ap (λ (h : Option Rich). option_or h (last_rich b n k)) none;
-      is_next = same;
-      below = rw found (below_by (word b k == 0x68636952) n k next below w.below);
-    }
+none_seen h e = grind arith
 
 pub one_passed : (b : List ℕ) (n left k : ℕ) (next now : Option ℕ) (h : Option RichHeader) → WordsLeft b n left next → left ≡ suc k → now ≡ rich_or b k next
     → option_map rich_view h ≡ rich_from b k now → is_some h ≡ false → WordsLeft b n k now
-one_passed b n left k next now h w is found seen none = passed b n left k next now w is found (sym seen ∙ none_seen h none)
+unfolding last_rich
+one_passed b n left k next now h w is found seen none = grind (arith, next_one, sym seen ∙ none_seen h none)
 
 -- at one that starts a header
 pub header_found : (b : List ℕ) (n left k : ℕ) (next now : Option ℕ) (h : Rich) → WordsLeft b n left next → left ≡ suc k → now ≡ rich_or b k next → rich_from b k now ≡ Some h → rich_header b ≡ Some h
 unfolding last_rich
-header_found b n left k next now h w is found some =
-    let below : k < n = omega (arith, w.within, is) in
-    let same : now ≡ next_rich b k (n - k) = found ∙ next_one b n k next below (w.is_next ∙ ap (λ l. next_rich b l (n - l)) is) in
-    w.header ∙ ap (last_rich b n) is ∙ ap (λ (o : Option ℕ). option_or (rich_from b k o) (last_rich b n k)) (sym same) ∙ ap (λ (h : Option Rich). option_or h (last_rich b n k)) some
+header_found b n left k next now h w is found some = grind (arith, next_one)
 
 -- after all words
 pub none_found : (b : List ℕ) (n left : ℕ) (next : Option ℕ) → WordsLeft b n left next → left ≡ 0 → rich_header b ≡ None

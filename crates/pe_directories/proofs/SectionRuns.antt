@@ -1,6 +1,5 @@
 -- Runs of RVAs, by sections that are tested in turn.
-use Rattle.std.proofs.Common.{◌≡◌, ℕ, ◌+◌, ◌-◌, ◌<◌, ◌≤◌, ◌^◌, min, Bool, true, false, List, [], ◌∷◌, filter, Some, None, refl, ap, sym, ◌∙◌, cond, arith}
-use Rattle.std.specs.Option.{option_map}
+use Rattle.std.proofs.Common.{◌≡◌, ℕ, ◌+◌, ◌-◌, ◌<◌, ◌≤◌, ◌^◌, min, List, [], ◌∷◌, filter, Some, None, refl, arith}
 use Rattle.std.proofs.lemmas.Bool.Decides.{nat_tests}
 use Rattle.pe_core.specs.SectionMap.{covers, first, raw_start, reach}
 use Rattle.pe_core.specs.declared.section_table.SectionTable.{SectionTable}
@@ -13,39 +12,19 @@ pub record Passed (alignment : ℕ) (sections left : List SectionTable) (rva end
   pub ahead : rva < end
   pub firsts : (x : ℕ) → rva ≤ x → x < end → first (filter (covers alignment x) sections) ≡ first (filter (covers alignment x) left)
 
-first_passed : {X : Type 0} (p : X → Bool) (x : X) (xs : List X) → p x ≡ false → first (filter p (x ∷ xs)) ≡ first (filter p xs)
-first_passed p x xs e = ap (λ (t : Bool). first (cond t (x ∷ filter p xs) (filter p xs))) e
-
-first_is : {X : Type 0} (p : X → Bool) (x : X) (xs : List X) → p x ≡ true → first (filter p (x ∷ xs)) ≡ Some x
-first_is p x xs e = ap (λ (t : Bool). first (cond t (x ∷ filter p xs) (filter p xs))) e
-
 pub none_passed : (alignment : ℕ) (sections : List SectionTable) (rva : ℕ) → rva < 2 ^ 64 - 1 → Passed alignment sections sections rva (2 ^ 64 - 1)
 none_passed alignment sections rva h = record { ahead = h; firsts = λ x g k. refl }
 
 pub one_passed : (alignment : ℕ) (sections rest : List SectionTable) (s : SectionTable) (rva end after : ℕ) → Passed alignment sections (s ∷ rest) rva end
     → (s.virtual_address ≤ rva → s.virtual_address + reach alignment s ≤ rva) → after ≤ end → rva < after → (rva < s.virtual_address → after ≤ s.virtual_address)
     → Passed alignment sections rest rva after
-one_passed alignment sections rest s rva end after g outside_it low ahead starts = record {
-  ahead = ahead;
-  firsts = λ x from to.
-      g.firsts x from (omega (arith, low, to)) ∙ first_passed (covers alignment x) s rest
-      (outside s.virtual_address x (reach alignment s) (λ a b. grind (arith, a, b, from, to, outside_it, starts)));
-}
+one_passed alignment sections rest s rva end after g outside_it low ahead starts = grind (arith, outside)
 
 pub found : (alignment : ℕ) (sections rest : List SectionTable) (s : SectionTable) (rva end : ℕ) (r : Run) → Passed alignment sections (s ∷ rest) rva end
     → s.virtual_address ≤ rva → rva < s.virtual_address + reach alignment s → r.end ≡ min end (s.virtual_address + reach alignment s)
     → r.offset ≡ Some (rva - s.virtual_address + raw_start s) → IsRun (in_turn alignment sections) rva r
-found alignment sections rest s rva end r g start stop is_end is_offset = record {
-  ahead = grind (arith, g.ahead, stop, is_end);
-  maps = λ x from to.
-      ap (option_map (λ t. x - t.virtual_address + raw_start t)) (g.firsts x from (grind (arith, to, is_end)) ∙ first_is (covers alignment x) s rest (grind (arith, nat_tests, from, to, start, is_end)))
-      ∙ ap (λ (p : ℕ). Some p) (omega (arith, start, from)) ∙ ap (option_map (λ p. p + (x - rva))) (sym is_offset);
-}
+found alignment sections rest s rva end r g start stop is_end is_offset = grind (arith, nat_tests)
 
 pub none_covers : (alignment : ℕ) (sections : List SectionTable) (rva end : ℕ) (r : Run) → Passed alignment sections [] rva end → r.end ≡ end → r.offset ≡ None
     → IsRun (in_turn alignment sections) rva r
-none_covers alignment sections rva end r g is_end is_offset = record {
-  ahead = grind (arith, g.ahead, is_end);
-  maps = λ x from to.
-      ap (option_map (λ t. x - t.virtual_address + raw_start t)) (g.firsts x from (grind (arith, to, is_end))) ∙ ap (option_map (λ p. p + (x - rva))) (sym is_offset);
-}
+none_covers alignment sections rva end r g is_end is_offset = grind arith

@@ -1,14 +1,12 @@
 -- All items of a walk as a list, and what is read of each of them.
-use Rattle.std.proofs.Common.{◌≡◌, ℕ, zero, suc, ◌<◌, List, [], ◌∷◌, ◌++◌, map, length, Option, Some, None, Result, Ok, Err, refl, ap, sym, ◌∙◌, arith}
+use Rattle.std.proofs.Common.{◌≡◌, ℕ, zero, suc, ◌<◌, List, [], ◌∷◌, ◌++◌, map, length, Option, Some, None, Result, Ok, Err, refl, sym, ◌∙◌, arith}
 use Rattle.std.proofs.lemmas.List.{append-nil, map-append}
-use Rattle.pe_core.specs.Gathered.{all_or_refusal, with_rest}
-use Rattle.pe_core.specs.Refusals.{◌>>=◌}
+use Rattle.pe_core.specs.Gathered.{with_rest}
 use Rattle.pe_core.proofs.Gathering.{with_one}
 use Rattle.pe_core.proofs.ImportLists.{unless_memory}
 use Rattle.pe_directories.specs.DirectoryRefusals.{DirectoryRefusal, UnlessNoMemory, directory_answer, directory_kind_of}
 use Rattle.pe_directories.specs.Walks.{First, Items, ItemsLeft, Steps, with_more, first_items, all_items, each_read}
 use Rattle.pe_directories.specs.declared.error.DirectoryError.{DirectoryError}
-use Rattle.pe_directories.specs.declared.error.DirectoryError.TheVariants as errors
 use Rattle.pe_directories.proofs.WholeWalks.{Shrinks, one_list, ended, one_more, refused}
 
 -- ---- the list has the items of the walk
@@ -27,8 +25,7 @@ first_are_items first shrinks (suc n) b few =
 
 all_are_items : {X : Type 0} (first : List ℕ → First X (List ℕ)) → Shrinks length first → (left : Option (List ℕ)) → ItemsLeft first left (all_items first left)
 unfolding all_items
-all_are_items first shrinks None = refl
-all_are_items first shrinks (Some b) = first_are_items first shrinks (suc (length b)) b (omega arith)
+all_are_items first shrinks left = grind (arith, first_are_items)
 
 -- a walk has no other items
 pub only_items : {X : Type 0} (first : List ℕ → First X (List ℕ)) → Shrinks length first → (left : Option (List ℕ)) (xs : List (Result X DirectoryRefusal)) → ItemsLeft first left xs → all_items first left ≡ xs
@@ -49,8 +46,7 @@ none_left view first shrinks left after h = only_items first shrinks left [] (en
 -- ---- errors
 
 unless_no_memory : (e : DirectoryError) (P : Type 0) → P → UnlessNoMemory e P
-unless_no_memory (errors.Image error) P x = unless_memory error P x
-unless_no_memory other P x = x
+unless_no_memory e P x = grind (arith, unless_memory)
 
 -- ---- what is read of the items so far, and of those that are left
 
@@ -60,36 +56,23 @@ pub record ReadSoFar {X Y : Type 0} (read : X → Result Y DirectoryRefusal) (it
 pub one_read : {X Y : Type 0} (read : X → Result Y DirectoryRefusal) (items left more : List (Result X DirectoryRefusal)) (ys : List Y) (x : X) (y : Y)
     → ReadSoFar read items left ys → left ≡ Ok x ∷ more → read x ≡ Ok y → ReadSoFar read items more (ys ++ y ∷ [])
 unfolding each_read
-one_read read items left more ys x y g is ok = record {
-  rest =
-      with_one ys y (each_read read more)
-      ∙ ap (λ (r : Result _ DirectoryRefusal). with_rest ys (all_or_refusal (r ∷ map (λ item. item >>= read) more))) (sym ok)
-      ∙ ap (λ (l : List (Result _ DirectoryRefusal)). with_rest ys (each_read read l)) (sym is)
-      ∙ g.rest;
-}
+one_read read items left more ys x y g is ok = grind (arith, with_one)
 
 pub one_pushed : {X Y V : Type 0} (view : V → Y) (read : X → Result Y DirectoryRefusal) (items left more : List (Result X DirectoryRefusal)) (done pushed : List V) (x : X) (v : V)
     → ReadSoFar read items left (map view done) → left ≡ Ok x ∷ more → read x ≡ Ok (view v) → pushed ≡ done ++ v ∷ [] → ReadSoFar read items more (map view pushed)
-one_pushed view read items left more done pushed x v g is ok push =
-    rw (push, map-append view done (v ∷ [])) (one_read read items left more (map view done) x (view v) g is ok)
+one_pushed view read items left more done pushed x v g is ok push = grind (arith, map-append, one_read)
 
 pub refused_item : {X Y : Type 0} (read : X → Result Y DirectoryRefusal) (items left more : List (Result X DirectoryRefusal)) (ys : List Y) (e : DirectoryError)
     → ReadSoFar read items left ys → left ≡ Err (directory_kind_of e) ∷ more → UnlessNoMemory e (each_read read items ≡ Err (directory_kind_of e))
 unfolding each_read
-refused_item read items left more ys e g is =
-    unless_no_memory e _ (sym g.rest ∙ ap (λ (l : List (Result _ DirectoryRefusal)). with_rest ys (each_read read l)) is)
+refused_item read items left more ys e g is = grind (arith, unless_no_memory)
 
 pub refused_read : {X Y : Type 0} (read : X → Result Y DirectoryRefusal) (items left more : List (Result X DirectoryRefusal)) (ys : List Y) (x : X) (e : DirectoryError)
     → ReadSoFar read items left ys → left ≡ Ok x ∷ more → read x ≡ Err (directory_kind_of e) → UnlessNoMemory e (each_read read items ≡ Err (directory_kind_of e))
 unfolding each_read
-refused_read read items left more ys x e g is not =
-    unless_no_memory e _
-    (sym g.rest
-    ∙ ap (λ (l : List (Result _ DirectoryRefusal)). with_rest ys (each_read read l)) is
-    ∙ ap (λ (r : Result _ DirectoryRefusal). with_rest ys (all_or_refusal (r ∷ map (λ item. item >>= read) more))) not)
+refused_read read items left more ys x e g is not = grind (arith, unless_no_memory)
 
 pub all_read : {X Y : Type 0} (read : X → Result Y DirectoryRefusal) (items left : List (Result X DirectoryRefusal)) (ys : List Y)
     → ReadSoFar read items left ys → left ≡ [] → each_read read items ≡ Ok ys
 unfolding each_read
-all_read read items left ys g is =
-    sym g.rest ∙ ap (λ (l : List (Result _ DirectoryRefusal)). with_rest ys (each_read read l)) is ∙ ap (λ (l : List _). Ok l) (append-nil ys)
+all_read read items left ys g is = grind (arith, append-nil)

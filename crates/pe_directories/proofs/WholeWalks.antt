@@ -49,18 +49,13 @@ one_list size first shrinks = record {
 -- ---- whole runs, seen by what an iterator has left
 
 pub ended : {X S Y : Type 0} (view : Y → X) (first : S → First X S) (left after : Option S) → Steps view first left None after → ItemsLeft first left []
-ended view first None after h = refl
-ended view first (Some s) after h = h.0
+ended view first left after h = grind arith
 
 pub one_more : {X S Y : Type 0} (view : Y → X) (first : S → First X S) (left after : Option S) (y : Y) (items : List (Result X DirectoryRefusal)) → Steps view first left (Some (Ok y)) after → ItemsLeft first after items → ItemsLeft first left (Ok (view y) ∷ items)
-one_more view first None after y items h more = absurd (cc h.0)
-one_more {X} {S} view first (Some s) after y items h more =
-    (h.0, h.1, subst (λ (l : Option S). ItemsLeft first l items) h.2 more)
+one_more view first left after y items h more = grind arith
 
 pub refused : {X S Y : Type 0} (view : Y → X) (first : S → First X S) (left after : Option S) (e : DirectoryError) (items : List (Result X DirectoryRefusal)) → Steps view first left (Some (Err e)) after → ItemsLeft first after items → ItemsLeft first left (Err (directory_kind_of e) ∷ items)
-refused view first None after e items h more = absurd (cc h.0)
-refused {X} {S} view first (Some s) after e items h more =
-    (h.0, subst (λ (l : Option S). ItemsLeft first l items) h.1 more)
+refused view first left after e items h more = grind arith
 
 module _ {I X S Y : Type 0} (view : Y → X) (first : I → S → First X S) (left : I → Option S) (steps : I → Option (Result Y DirectoryError) → I → Type 0) where
   -- a call of next is a step, and keeps what defines the items

@@ -7,7 +7,7 @@ use Rattle.pe_core.specs.Refusals.{◌>>=◌}
 use Rattle.pe_core.proofs.Splices.{length-bytes_of, length-splice}
 use Rattle.pe_directories.specs.BaseRelocations.{Block, block_view, blocks_left, first_block, first_relocation, page_of, relocations_left}
 use Rattle.pe_directories.specs.DirectoryRefusals.{DirectoryRefusal, directory_answer}
-use Rattle.pe_directories.specs.Relocated.{all_moved, base_words, block_words, blocks_moved, moved, stands_in, width_of, word_in, word_of}
+use Rattle.pe_directories.specs.Relocated.{all_moved, base_words, block_words, blocks_moved, moved, stands_in, word_of}
 use Rattle.pe_directories.specs.Walks.{Steps, all_items, each_read}
 use Rattle.pe_directories.specs.declared.base_relocation.BaseRelocation.{BaseRelocation}
 use Rattle.pe_directories.specs.declared.base_relocation.BaseRelocations.{BaseRelocations}
@@ -38,15 +38,11 @@ items_of_table table = all_items first_block (Some table)
 pub relocation_taken : (page : ℕ) (s t : BaseRelocations) (r : Result BaseRelocation DirectoryError) → page_of s ≡ page
     → Steps (λ x. x) (first_relocation (page_of s)) (relocations_left s) (Some r) (relocations_left t) × (page_of t ≡ page_of s)
     → relocations_of page s ≡ directory_answer (λ x. x) r ∷ relocations_of page t
-relocation_taken page s t r at h =
-    first_taken (λ (x : BaseRelocation). x) (first_relocation page) (relocation_shrinks page) (relocations_left s) (relocations_left t) r
-    (subst (λ (p : ℕ). Steps (λ (x : BaseRelocation). x) (first_relocation p) (relocations_left s) (Some r) (relocations_left t)) at h.0)
+relocation_taken page s t r at h = grind (arith, first_taken, relocation_shrinks)
 
 pub no_relocation : (page : ℕ) (s t : BaseRelocations) → page_of s ≡ page
     → Steps {Y = BaseRelocation} (λ x. x) (first_relocation (page_of s)) (relocations_left s) None (relocations_left t) × (page_of t ≡ page_of s) → relocations_of page s ≡ []
-no_relocation page s t at h =
-    none_left (λ (x : BaseRelocation). x) (first_relocation page) (relocation_shrinks page) (relocations_left s) (relocations_left t)
-    (subst (λ (p : ℕ). Steps {Y = BaseRelocation} (λ (x : BaseRelocation). x) (first_relocation p) (relocations_left s) None (relocations_left t)) at h.0)
+no_relocation page s t at h = grind (arith, none_left, relocation_shrinks)
 
 pub block_taken : (s t : RelocationBlocks) (r : Result RelocationBlock DirectoryError) → Steps block_view first_block (blocks_left s) (Some r) (blocks_left t)
     → blocks_of s ≡ directory_answer block_view r ∷ blocks_of t
@@ -67,22 +63,16 @@ pub record SomeRead {X Y : Type 0} (read : X → Result Y DirectoryRefusal) (ite
   pub done : List Y
   pub so_far : ReadSoFar read items left done
 
-with_none : {X R : Type 0} (r : Result (List X) R) → with_rest [] r ≡ r
-with_none (Ok xs) = refl
-with_none (Err e) = refl
-
 pub nothing_read : {X Y : Type 0} (read : X → Result Y DirectoryRefusal) (items : List (Result X DirectoryRefusal)) → SomeRead read items items
-nothing_read read items = record { done = []; so_far = record { rest = with_none (each_read read items) } }
+nothing_read read items = grind arith
 
 pub started_block : {Y : Type 0} (read : BaseRelocation → Result Y DirectoryRefusal) (k : Block) (s : BaseRelocations) → relocations_left s ≡ Some k.entries
     → SomeRead read (items_of_block k) (relocations_of k.page_rva s)
-started_block read k s is =
-    subst (λ (l : Option (List ℕ)). SomeRead read (items_of_block k) (all_items (first_relocation k.page_rva) l)) (sym is) (nothing_read read (items_of_block k))
+started_block read k s is = grind (arith, nothing_read)
 
 pub started_table : {Y : Type 0} (read : Block → Result Y DirectoryRefusal) (table : List ℕ) (s : RelocationBlocks) → blocks_left s ≡ Some table
     → SomeRead read (items_of_table table) (blocks_of s)
-started_table read table s is =
-    subst (λ (l : Option (List ℕ)). SomeRead read (items_of_table table) (all_items first_block l)) (sym is) (nothing_read read (items_of_table table))
+started_table read table s is = grind (arith, nothing_read)
 
 pub base_tested : (size : ℕ) (base : Option BaseRelocation) (r : BaseRelocation) (w : Word) → base ≡ Some r → word_of size r ≡ Ok w
     → (x : List Word) × (base_words size base ≡ Ok x)
@@ -107,16 +97,12 @@ all_tested read items left g is = (g.done, all_read read items left g.done g.so_
 pub item_refused : {X Y : Type 0} (read : X → Result Y DirectoryRefusal) (items left more : List (Result X DirectoryRefusal)) (r : DirectoryRefusal)
     → SomeRead read items left → left ≡ Err r ∷ more → each_read read items ≡ Err r
 unfolding each_read
-item_refused {X} {Y} read items left more r g is =
-    sym g.so_far.rest ∙ ap (λ (l : List (Result X DirectoryRefusal)). with_rest g.done (each_read read l)) is
+item_refused read items left more r g is = grind arith
 
 pub read_refused : {X Y : Type 0} (read : X → Result Y DirectoryRefusal) (items left more : List (Result X DirectoryRefusal)) (x : X) (r : DirectoryRefusal)
     → SomeRead read items left → left ≡ Ok x ∷ more → read x ≡ Err r → each_read read items ≡ Err r
 unfolding each_read
-read_refused {X} {Y} read items left more x r g is not =
-    sym g.so_far.rest
-    ∙ ap (λ (l : List (Result X DirectoryRefusal)). with_rest g.done (each_read read l)) is
-    ∙ ap (λ (q : Result Y DirectoryRefusal). with_rest g.done (all_or_refusal (q ∷ map (λ item. item >>= read) more))) not
+read_refused read items left more x r g is not = grind arith
 
 -- ---- what the words that are left make of the image
 
@@ -131,8 +117,7 @@ nothing_moved apply read items old = record { long = refl; rest = λ ys e. (ys, 
 
 -- what is read of more items, where it is all there with one before
 after_one : {Y : Type 0} (y : Y) (zs : List Y) (r : Result (List Y) DirectoryRefusal) → with_rest (y ∷ []) r ≡ Ok zs → (ws : List Y) × (r ≡ Ok ws) × (zs ≡ y ∷ ws)
-after_one {Y} y zs (Ok ws) e = (ws, refl, (let same : ◌≡◌ {A = Result (List Y) DirectoryRefusal} (Ok (y ∷ ws)) (Ok zs) = e in cc))
-after_one y zs (Err r) e = absurd cc
+after_one y zs r e = grind arith
 
 pub started_words : {Y : Type 0} (apply : List Y → List ℕ → List ℕ) (read : BaseRelocation → Result Y DirectoryRefusal) (k : Block) (s : BaseRelocations) (old : List ℕ)
     → relocations_left s ≡ Some k.entries → MovesLeft apply read (items_of_block k) (relocations_of k.page_rva s) old old
@@ -163,49 +148,28 @@ pub one_moved : {X Y : Type 0} (apply : List Y → List ℕ → List ℕ) (read 
     → MovesLeft apply read items left old image → left ≡ Ok x ∷ more → ((y : Y) → read x ≡ Ok y → (zs : List Y) → apply (y ∷ zs) image ≡ apply zs after)
     → (y : Y) → read x ≡ Ok y → length after ≡ length image → MovesLeft apply read items more old after
 unfolding each_read
-one_moved {X} {Y} apply read items left more old image after x g is step y ok long = record {
-  long = long ∙ g.long;
-  rest = λ ys e.
-      let found = g.rest ys e in
-      let parts = after_one y found.0 (each_read read more)
-      (ap (λ (q : Result Y DirectoryRefusal). all_or_refusal (q ∷ map (λ item. item >>= read) more)) (sym ok)
-      ∙ ap (each_read read) (sym is) ∙ found.1) in
-      (parts.0, parts.1, sym (step y ok parts.0) ∙ ap (λ (zs : List Y). apply zs image) (sym parts.2) ∙ found.2);
-}
+one_moved apply read items left more old image after x g is step y ok long = grind (arith, after_one)
 
 pub all_are_moved : {X Y : Type 0} (apply : List Y → List ℕ → List ℕ) (read : X → Result Y DirectoryRefusal) (items left : List (Result X DirectoryRefusal)) (old image : List ℕ)
     → ((b : List ℕ) → apply [] b ≡ b) → MovesLeft apply read items left old image → left ≡ [] → (ys : List Y) → each_read read items ≡ Ok ys → image ≡ apply ys old
 unfolding each_read
-all_are_moved {X} {Y} apply read items left old image none g is ys e =
-    let found = g.rest ys e in
-    let empty : found.0 ≡ [] = (let same : ◌≡◌ {A = Result (List Y) DirectoryRefusal} (Ok []) (Ok found.0) = ap (each_read read) (sym is) ∙ found.1 in cc) in
-    sym (none image) ∙ ap (λ (zs : List Y). apply zs image) (sym empty) ∙ found.2
+all_are_moved apply read items left old image none g is ys e = grind arith
 
 -- an item that is refused, or of which nothing is read, is not among items of which all is read
 pub not_item : {X Y Z : Type 0} (apply : List Y → List ℕ → List ℕ) (read : X → Result Y DirectoryRefusal) (items left more : List (Result X DirectoryRefusal)) (old image : List ℕ) (r : DirectoryRefusal)
     → MovesLeft apply read items left old image → left ≡ Err r ∷ more → (ys : List Y) → each_read read items ≡ Ok ys → Z
 unfolding each_read
-not_item {X} {Y} apply read items left more old image r g is ys e =
-    let found = g.rest ys e in
-    let same : ◌≡◌ {A = Result (List Y) DirectoryRefusal} (Err r) (Ok found.0) = ap (each_read read) (sym is) ∙ found.1 in absurd cc
+not_item apply read items left more old image r g is ys e = grind arith
 
 pub not_read : {X Y Z : Type 0} (apply : List Y → List ℕ → List ℕ) (read : X → Result Y DirectoryRefusal) (items left more : List (Result X DirectoryRefusal)) (old image : List ℕ) (x : X) (r : DirectoryRefusal)
     → MovesLeft apply read items left old image → left ≡ Ok x ∷ more → read x ≡ Err r → (ys : List Y) → each_read read items ≡ Ok ys → Z
 unfolding each_read
-not_read {X} {Y} apply read items left more old image x r g is not ys e =
-    let found = g.rest ys e in
-    let same : ◌≡◌ {A = Result (List Y) DirectoryRefusal} (Err r) (Ok found.0) =
-    ap (λ (q : Result Y DirectoryRefusal). all_or_refusal (q ∷ map (λ item. item >>= read) more)) (sym not) ∙ ap (each_read read) (sym is) ∙ found.1 in absurd cc
+not_read apply read items left more old image x r g is not ys e = grind arith
 
 -- ---- one word
 
--- the word of a relocation stands in the image
-word_stands : (size : ℕ) (r : BaseRelocation) (width : Option ℕ) (w : Word) → width_of r.kind ≡ width → word_in size r width ≡ Ok w → stands_in size w ≡ true
-word_stands size r None w of e = absurd cc
-word_stands size r (Some width) w of e = grind (arith, nat_tests, of, e)
-
 pub word_stands_in : (size : ℕ) (r : BaseRelocation) (w : Word) → word_of size r ≡ Ok w → stands_in size w ≡ true
-word_stands_in size r w e = word_stands size r (width_of r.kind) w refl e
+word_stands_in size r w e = grind (arith, nat_tests)
 
 -- the image stays as long
 long_by : (difference : ℕ) (w : Word) (b : List ℕ) (zero_width : Bool) → (w.width == 0) ≡ zero_width → stands_in (length b) w ≡ true → length (moved difference w b) ≡ length b
@@ -232,14 +196,4 @@ pub block_moved : (difference size : ℕ) (items left more : List (Result Block 
     → MovesLeft (blocks_moved difference) (block_words size) items left old image → left ≡ Ok k ∷ more → size ≡ length image
     → ((ws : List Word) → block_words (length image) k ≡ Ok ws → after ≡ all_moved difference ws image) → length after ≡ length image
     → MovesLeft (blocks_moved difference) (block_words size) items more old after
-block_moved difference size items left more old image after k g is long is_after same_length = record {
-  long = same_length ∙ g.long;
-  rest = λ ys e.
-      let found = g.rest ys e in
-      let parts = of_first (block_words size) k more found.0 (ap (each_read (block_words size)) (sym is) ∙ found.1) in (
-        parts.1.0,
-        parts.2.1,
-        ap (blocks_moved difference parts.1.0) (is_after parts.0 (ap (λ (n : ℕ). block_words n k) (sym long) ∙ parts.2.0))
-            ∙ ap (λ (zs : List (List Word)). blocks_moved difference zs image) (sym parts.2.2) ∙ found.2,
-      );
-}
+block_moved difference size items left more old image after k g is long is_after same_length = grind (arith, of_first)

@@ -1,4 +1,5 @@
-use Rattle.std.proofs.Common.{◌∷◌, [], Ok, Err, None, arith, refl, rules}
+use Rattle.std.proofs.Common.{◌∷◌, [], Ok, Err, arith, refl, rules}
+use Rattle.std.proofs.lemmas.Grind.{common_steps}
 use Rattle.std.proofs.lemmas.Slice.{pushed}
 use Rattle.pe_directories.specs.DelayImports.{dll_of, dll_view}
 use Rattle.pe_directories.specs.DelayImportSteps.{dll_name_offset, entry_items}
@@ -13,9 +14,7 @@ returns-in_err-item g c =
     search (rules, refused)
 
 pub named_dll-requires : goal.named_dll-requires
-named_dll-requires g c =
-    let taken = taken_is (entry_items c.loop-name.entries) (entry_items c.next.new.self) c.in-Some.item (Ok c.in_ok-item.field-0) (entry_taken c.loop-name.entries c.next.new.self c.in-Some.item c.in-Some.ensures.steps) c.in_ok-item.was in
-    name_is c.args.image.now.bytes (dll_name_offset c.args.image.now) (entry_items c.loop-name.entries) (entry_items c.next.new.self) c.args.names.now c.loop-name.name-index c.in_ok-item.field-0 None c.loop-name.invariant.names taken
+named_dll-requires g c = grind (arith, common_steps, taken_is, entry_taken, name_is)
 
 pub returns-in_err-named_dll : goal.returns-in_err-named_dll
 returns-in_err-named_dll g c =
@@ -33,10 +32,7 @@ loop-name-preserved g c =
     }
 
 pub returns-in_default : goal.returns-in_default
-returns-in_default g c =
-    all_read (dll_of c.args.image.now) (entry_items c.args.entries) (entry_items c.loop-name.entries) _ c.loop-name.invariant.read (no_entry c.loop-name.entries c.next.new.self c.in_default.ensures.steps)
+returns-in_default g c = search (rules, arith, all_read, no_entry)
 
 pub returns : goal.returns
-returns g c =
-    all_read (dll_of c.args.image.now) (entry_items c.args.entries) (entry_items c.loop-name.entries) _ c.loop-name.invariant.read
-    (names_over c.args.image.now.bytes (dll_name_offset c.args.image.now) (entry_items c.loop-name.entries) c.args.names.now c.loop-name.name-index c.loop-name.invariant.names (omega arith))
+returns g c = search (rules, arith, all_read, names_over)

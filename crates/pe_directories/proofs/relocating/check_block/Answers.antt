@@ -1,4 +1,4 @@
-use Rattle.std.proofs.Common.{Ok, Err, rules, ◌∙◌}
+use Rattle.std.proofs.Common.{Ok, Err, rules, arith}
 use Rattle.pe_directories.specs.BaseRelocations.{block_view}
 use Rattle.pe_directories.specs.Relocated.{word_of}
 use Rattle.pe_directories.proofs.WordsLeft.{all_tested, item_is, item_refused, no_relocation, one_more_read, read_refused, relocation_taken, started_block}
@@ -20,12 +20,7 @@ returns-in_err-word_of c =
     search (rules, refused)
 
 pub loop-item-preserved : goal.loop-item-preserved
-loop-item-preserved c =
-    let taken = item_is (λ x. x) _ _ c.in-Some.item (Ok c.in_ok-item.field-0) (relocation_taken _ _ _ c.in-Some.item c.loop-item.invariant.page c.in-Some.ensures.steps) c.in_ok-item.was in
-    record {
-      page = c.in-Some.ensures.steps.1 ∙ c.loop-item.invariant.page;
-      read = one_more_read (word_of c.args.size) _ _ _ _ _ c.loop-item.invariant.read taken c.in_ok-word_of.ensures;
-    }
+loop-item-preserved c = search (rules, arith, item_is, relocation_taken, one_more_read)
 
 pub returns : goal.returns
 returns c = all_tested (word_of c.args.size) _ _ c.loop-item.invariant.read (no_relocation _ _ _ c.loop-item.invariant.page c.in_default.ensures.steps)

@@ -1,4 +1,4 @@
-use Rattle.std.proofs.Common.{Ok, Err, rules}
+use Rattle.std.proofs.Common.{Ok, Err, rules, arith}
 use Rattle.pe_directories.specs.BaseRelocations.{block_view}
 use Rattle.pe_directories.specs.Relocated.{block_words}
 use Rattle.pe_directories.proofs.WordsLeft.{all_tested, block_taken, item_is, item_refused, no_block, one_more_tested, read_refused, started_table}
@@ -20,9 +20,7 @@ returns-in_err-check_block c =
     search (rules, refused)
 
 pub loop-item-preserved : goal.loop-item-preserved
-loop-item-preserved c =
-    let taken = item_is block_view _ _ c.in-Some.item (Ok c.in_ok-item.field-0) (block_taken _ _ c.in-Some.item c.in-Some.ensures.steps) c.in_ok-item.was in
-    one_more_tested (block_words c.args.size) _ _ _ _ c.loop-item.invariant taken c.in_ok-check_block.ensures
+loop-item-preserved c = search (rules, arith, item_is, block_taken, one_more_tested)
 
 pub returns : goal.returns
 returns c = all_tested (block_words c.args.size) _ _ c.loop-item.invariant (no_block _ _ c.in_default.ensures.steps)

@@ -1,14 +1,10 @@
-use Rattle.std.proofs.Common.{Ok, Err, length, refl, rules, ◌∙◌}
-use Rattle.pe_directories.specs.BaseRelocations.{block_view}
+use Rattle.std.proofs.Common.{Ok, Err, length, refl, rules, ◌∙◌, arith}
 use Rattle.pe_directories.specs.Relocated.{all_moved, word_of}
 use Rattle.pe_directories.proofs.WordsLeft.{all_are_moved, item_is, no_relocation, not_item, not_read, relocation_taken, started_words, word_moved}
 use Rattle.pe_directories.proofs.relocating.move_block.Goals as goal
 
 pub loop-item-init : goal.loop-item-init
-loop-item-init c = record {
-  page = c.relocations-relocations.ensures.page;
-  moves = started_words (all_moved c.args.difference) (word_of (length c.args.image.now)) (block_view c.args.block.now) c.relocations-relocations.result c.args.image.now c.relocations-relocations.ensures.left;
-}
+loop-item-init c = search (rules, arith, started_words)
 
 pub returns-clause-moved : goal.returns-clause-moved
 returns-clause-moved c =

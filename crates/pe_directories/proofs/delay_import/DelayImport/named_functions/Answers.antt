@@ -1,4 +1,5 @@
-use Rattle.std.proofs.Common.{◌∷◌, [], Ok, Err, None, arith, refl, rules}
+use Rattle.std.proofs.Common.{◌∷◌, [], Ok, Err, arith, refl, rules}
+use Rattle.std.proofs.lemmas.Grind.{common_steps}
 use Rattle.std.proofs.lemmas.Slice.{pushed}
 use Rattle.pe_directories.specs.DelayImports.{imported_by, function_view}
 use Rattle.pe_directories.specs.DelayImportSteps.{function_name_offset, table_items}
@@ -13,9 +14,7 @@ returns-in_err-item g c =
     search (rules, refused)
 
 pub named_function-requires : goal.named_function-requires
-named_function-requires g c =
-    let taken = taken_is (table_items c.loop-name.table) (table_items c.next.new.self) c.in-Some.item (Ok c.in_ok-item.field-0) (number_taken c.loop-name.table c.next.new.self c.in-Some.item c.in-Some.ensures.steps) c.in_ok-item.was in
-    name_is c.args.image.now.bytes (function_name_offset c.args.image.now c.args.self.now) (table_items c.loop-name.table) (table_items c.next.new.self) c.args.names.now c.loop-name.name-index c.in_ok-item.field-0 None c.loop-name.invariant.names taken
+named_function-requires g c = grind (arith, common_steps, taken_is, number_taken, name_is)
 
 pub returns-in_err-named_function : goal.returns-in_err-named_function
 returns-in_err-named_function g c =
@@ -33,10 +32,7 @@ loop-name-preserved g c =
     }
 
 pub returns-in_default : goal.returns-in_default
-returns-in_default g c =
-    all_read (imported_by c.args.image.now c.args.self.now) (table_items c.args.table) (table_items c.loop-name.table) _ c.loop-name.invariant.read (no_number c.loop-name.table c.next.new.self c.in_default.ensures.steps)
+returns-in_default g c = search (rules, arith, all_read, no_number)
 
 pub returns : goal.returns
-returns g c =
-    all_read (imported_by c.args.image.now c.args.self.now) (table_items c.args.table) (table_items c.loop-name.table) _ c.loop-name.invariant.read
-    (names_over c.args.image.now.bytes (function_name_offset c.args.image.now c.args.self.now) (table_items c.loop-name.table) c.args.names.now c.loop-name.name-index c.loop-name.invariant.names (omega arith))
+returns g c = search (rules, arith, all_read, names_over)
