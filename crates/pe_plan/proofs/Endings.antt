@@ -50,10 +50,7 @@ no_endless_links law t b start end g [] [] p stop q endless =
     here.1 (let is : here.0 ≡ FunctionCycle = cc in is)
 no_endless_links law t b start end g [] (j ∷ js) p stop q endless = no_record law t b start end (Some g) j js p stop q
 no_endless_links law t b None end g (i ∷ is) js p stop q endless = p
-no_endless_links law t b (Some f) end g (i ∷ is) [] p stop q endless =
-    let same : f ≡ g = cc in
-    let clash = cycle_of law t b f.unwind_info_address (Ok i) (subst (λ (h : RuntimeFunction). IsEndless t h.unwind_info_address) (sym same) endless) p.0 in
-    cc
+no_endless_links law t b (Some f) end g (i ∷ is) [] p stop q endless = grind (arith, cycle_of)
 no_endless_links law t b (Some f) end g (i ∷ is) (j ∷ js) p stop q endless =
     no_endless_links law t b i.chained_info end g is js p.1 stop (follows_same law t b f i j end is js (Some g) p q) endless
 

@@ -1,9 +1,9 @@
 -- The plan of a function in an array: what is read so far is the start of the chain.
-use Rattle.std.proofs.Common.{◌≡◌, ℕ, ◌<◌, ◌≤◌, List, length, map, take, Option, Some, None, Ok, Err, subst, ◌∙◌, arith}
+use Rattle.std.proofs.Common.{◌≡◌, ℕ, ◌<◌, ◌≤◌, List, length, map, take, Option, Some, None, Ok, Err, ◌∙◌, arith}
 use Rattle.std.proofs.lemmas.List.{length-map, length-take-le}
 use Rattle.pe_core.specs.Refusals.{Refusal}
 use Rattle.pe_unwind.specs.Links.{Table}
-use Rattle.pe_unwind.specs.UnwindRecord.{UnwindInfoView, unwind_view}
+use Rattle.pe_unwind.specs.UnwindRecord.{unwind_view}
 use Rattle.pe_unwind.specs.Unwinding.{Unwinds}
 use Rattle.pe_unwind.specs.declared.function_table.RuntimeFunction.{RuntimeFunction}
 use Rattle.pe_unwind.specs.declared.unwind_info.UnwindInfo.{UnwindInfo}
@@ -16,14 +16,12 @@ many_taken xs n le = length-map (take n xs) unwind_view ∙ length-take-le n xs 
 -- a record that cannot be read
 pub refused_next : (most : ℕ) (t : Table) (b : List ℕ) (f g : RuntimeFunction) (xs : List UnwindInfo) (n : ℕ) (refusal : Refusal) → length xs ≡ most → n < most →
     IsChain t b (Some f) (map unwind_view (take n xs)) (Some g) → Unwinds t b g.unwind_info_address (Err refusal) → PlansUpTo most t b f (Err refusal)
-refused_next most t b f g xs n refusal long lt chain unwinds =
-    (map unwind_view (take n xs), g, omega (arith, lt, long, many_taken xs n (omega (arith, lt, long))), chain, unwinds)
+refused_next most t b f g xs n refusal long lt chain unwinds = grind (arith, many_taken)
 
 -- as many records as there is room for are each chained to another
 pub full : (most : ℕ) (t : Table) (b : List ℕ) (f g : RuntimeFunction) (xs : List UnwindInfo) (n : ℕ) (o : Option RuntimeFunction) → length xs ≡ most → n ≡ most → o ≡ Some g →
     IsChain t b (Some f) (map unwind_view (take n xs)) o → PlansUpTo most t b f (Ok None)
-full most t b f g xs n o long is some chain =
-    (map unwind_view (take n xs), g, many_taken xs n (omega (arith, is, long)) ∙ is, subst (λ (e : Option RuntimeFunction). IsChain t b (Some f) (map unwind_view (take n xs)) e) some chain)
+full most t b f g xs n o long is some chain = grind (arith, many_taken)
 
 pub short_refusal : (most : ℕ) (t : Table) (b : List ℕ) (f : RuntimeFunction) (refusal : Refusal) → most ≤ most_records → PlansUpTo most t b f (Err refusal) → PlansShort t b f (Err refusal)
 short_refusal most t b f refusal le plan = (plan.0, plan.1, omega (arith, le, plan.2), plan.3, plan.4)

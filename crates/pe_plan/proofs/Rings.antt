@@ -66,10 +66,7 @@ length-addresses t b (Some f) g (i ∷ is) p = ap suc (length-addresses t b i.ch
 comes_to : (t : Table) (b : List ℕ) (start : Option RuntimeFunction) (g : RuntimeFunction) (is : List UnwindInfoView) (q : ℕ) → IsChain t b start is (Some g) → list_any (eqb q) (addresses start is) ≡ true
     → (h : RuntimeFunction) × (js : List UnwindInfoView) × IsChain t b start js (Some h) × (h.unwind_info_address ≡ q)
 comes_to t b None g is q p e = absurd (false≢true e)
-comes_to t b (Some f) g [] q p e =
-    ⊎_elim (λ (same : q ≡ f.unwind_info_address). (f, [], refl, sym same))
-    (λ (other : q ≢ f.unwind_info_address). absurd (false≢true (or_second (eqb q f.unwind_info_address) false (grind (arith, nat_tests)) e)))
-    (cases_eq q f.unwind_info_address)
+comes_to t b (Some f) g [] q p e = grind (arith, false≢true, or_second, nat_tests, cases_eq)
 comes_to t b (Some f) g (i ∷ is) q p e =
     ⊎_elim (λ (same : q ≡ f.unwind_info_address). (f, [], refl, sym same))
     (λ (other : q ≢ f.unwind_info_address).
@@ -126,10 +123,7 @@ below_more t b n (Some f) g (j ∷ is) i p small last = (small.0, below_more t b
 
 below : (n : ℕ) (start : Option RuntimeFunction) (is : List UnwindInfoView) (q : ℕ) → AreBelow n start is → list_any (eqb q) (addresses start is) ≡ true → q < n
 below n None is q small e = absurd (false≢true e)
-below n (Some f) [] q small e =
-    ⊎_elim (λ (same : q ≡ f.unwind_info_address). omega (arith, small))
-    (λ (other : q ≢ f.unwind_info_address). absurd (false≢true (or_second (eqb q f.unwind_info_address) false (grind (arith, nat_tests)) e)))
-    (cases_eq q f.unwind_info_address)
+below n (Some f) [] q small e = grind (arith, false≢true, or_second, nat_tests, cases_eq)
 below n (Some f) (i ∷ is) q small e =
     ⊎_elim (λ (same : q ≡ f.unwind_info_address). omega (arith, small.0))
     (λ (other : q ≢ f.unwind_info_address). below n i.chained_info is q small.1 (or_second (eqb q f.unwind_info_address) _ (grind (arith, nat_tests)) e))

@@ -1,5 +1,5 @@
 -- A chain that ends after its last record ends at a root.
-use Rattle.std.proofs.Common.{◌≡◌, ◌↔◌, ◌∙◌, ℕ, List, [], ◌∷◌, Option, Some, None, Result, Ok, Err, IsSome, refl, ap, sym}
+use Rattle.std.proofs.Common.{◌≡◌, ◌↔◌, ℕ, List, [], ◌∷◌, Option, Some, None, Result, Ok, IsSome, refl, ap, arith}
 use Rattle.std.proofs.lemmas.List.Elements.{All-cons, All-nil}
 use Rattle.pe_core.specs.Refusals.{Refusal}
 use Rattle.pe_core.specs.declared.options.ParseOptions.{ParseOptions}
@@ -7,9 +7,9 @@ use Rattle.pe_core.specs.declared.section_table.SectionTable.{SectionTable}
 use Rattle.pe_unwind.specs.declared.function_table.RuntimeFunction.{RuntimeFunction}
 use Rattle.pe_unwind.specs.ExceptionTable.{ExceptionView, table_of}
 use Rattle.pe_unwind.specs.FunctionTable.{NeverFalls, functions, scan}
-use Rattle.pe_unwind.specs.Links.{Table, links_of}
+use Rattle.pe_unwind.specs.Links.{Table}
 use Rattle.pe_unwind.specs.UnwindRecord.{UnwindInfoView}
-use Rattle.pe_plan.specs.Plans.{EndsAtRoot, IsChain, Plans, PlansFrom, PlansFound}
+use Rattle.pe_plan.specs.Plans.{EndsAtRoot, IsChain, Plans, PlansFrom}
 
 one_root : (i : UnwindInfoView) → i.chained_info ≡ None → EndsAtRoot (i ∷ [])
 one_root i root = record { chained = []; root = i; records = refl; are_chained = All-nil (λ i. IsSome i.chained_info); is_root = root }
@@ -24,8 +24,7 @@ in_front i is some r = record {
 }
 
 some_next : (t : Table) (b : List ℕ) (o : Option RuntimeFunction) (i : UnwindInfoView) (is : List UnwindInfoView) → IsChain t b o (i ∷ is) None → IsSome o
-some_next t b None i is p = absurd p
-some_next t b (Some g) i is p = refl
+some_next t b o i is p = grind arith
 
 from_first : (t : Table) (b : List ℕ) (o : Option RuntimeFunction) (i : UnwindInfoView) (is : List UnwindInfoView) → IsChain t b o (i ∷ is) None → EndsAtRoot (i ∷ is)
 from_first t b None i is p = absurd p
@@ -36,23 +35,10 @@ pub plan_ends_at_root : (t : Table) (b : List ℕ) (f : RuntimeFunction) (is : L
 plan_ends_at_root t b f [] p = absurd cc
 plan_ends_at_root t b f (i ∷ is) p = from_first t b (Some f) i is p
 
-found : (t : Table) (b : List ℕ) (o : Option RuntimeFunction) (is : List UnwindInfoView) → PlansFound t b o (Ok (Some is)) → EndsAtRoot is
-found t b None is p = absurd (let clash : Path (Result (Option (List UnwindInfoView)) _) (Ok (Some is)) (Ok None) = p in cc)
-found t b (Some f) is p = plan_ends_at_root t b f is p
-
 pub found_plan_ends_at_root : (v : ExceptionView) (sections : List SectionTable) (opts : ParseOptions) (a : ℕ) (is : List UnwindInfoView) → Plans v sections opts a (Ok (Some is)) → EndsAtRoot is
-found_plan_ends_at_root v sections opts a is p = found (links_of v sections opts) v.content p.found is p.plan
+found_plan_ends_at_root v sections opts a is p = grind (arith, plan_ends_at_root)
 
 -- ---- no plan
 
-none_found : (t : Table) (b : List ℕ) (o : Option RuntimeFunction) (x : Result (Option (List UnwindInfoView)) Refusal) → PlansFound t b o x → (x ≡ Ok None) ↔ (o ≡ None)
-none_found t b None x p = (λ e. refl, λ e. p)
-none_found t b (Some f) (Ok None) p = absurd p
-none_found t b (Some f) (Ok (Some is)) p = (λ e. cc, λ e. cc)
-none_found t b (Some f) (Err k) p = (λ e. cc, λ e. cc)
-
 pub none_scanned : (v : ExceptionView) (sections : List SectionTable) (opts : ParseOptions) (a : ℕ) (x : Result (Option (List UnwindInfoView)) Refusal) → Plans v sections opts a x → NeverFalls (functions (table_of v)) → (x ≡ Ok None) ↔ (scan (functions (table_of v)) a ≡ None)
-none_scanned v sections opts a x p sorted =
-    let exact = none_found (links_of v sections opts) v.content p.found x p.plan in
-    let same : p.found ≡ scan (functions (table_of v)) a = p.finds.scanned sorted in
-    (λ e. sym same ∙ exact.0 e, λ e. exact.1 (same ∙ e))
+none_scanned v sections opts a x p sorted = grind arith

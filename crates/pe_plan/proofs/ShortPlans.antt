@@ -1,5 +1,5 @@
 -- Short plans: their records in an array that has more places, and that they are plans.
-use Rattle.std.proofs.Common.{◌≡◌, ℕ, ◌+◌, ◌<◌, ◌≤◌, List, [], ◌∷◌, length, map, take, slice_index_or, slice_set, Option, Some, None, Ok, Err, refl, ap, sym, subst, ◌∙◌, arith}
+use Rattle.std.proofs.Common.{◌≡◌, ℕ, ◌+◌, ◌<◌, List, [], ◌∷◌, length, map, take, slice_index_or, slice_set, Option, Some, None, Ok, Err, refl, sym, ◌∙◌, arith, rules}
 use Rattle.std.proofs.lemmas.List.{length-map, length-take-le, map_push, take_more, take_more_set}
 use Rattle.pe_core.specs.Refusals.{Refusal}
 use Rattle.pe_unwind.specs.Links.{Table}
@@ -19,19 +19,12 @@ use Rattle.pe_plan.specs.ShortPlans.{PlansShort, most_records}
 pub chain_more : (t : Table) (b : List ℕ) (start : Option RuntimeFunction) (g : RuntimeFunction) (xs : List UnwindInfo) (x : UnwindInfo) (n : ℕ) → n < length xs →
     IsChain t b start (map unwind_view (take n xs)) (Some g) → Unwinds t b g.unwind_info_address (Ok (unwind_view x)) →
     IsChain t b start (map unwind_view (take (n + 1) (slice_set xs n x))) x.chained_info
-chain_more t b start g xs x n lt chain unwinds =
-    rw (take_more_set xs n x lt) (rw (map_push unwind_view (take n xs) x) (one_more t b start g (map unwind_view (take n xs)) (unwind_view x) chain unwinds))
+chain_more t b start g xs x n lt chain unwinds = search (rules, arith, take_more_set, map_push, one_more)
 
 -- the first record, which fills the array
 pub chain_first : (t : Table) (b : List ℕ) (f : RuntimeFunction) (xs : List UnwindInfo) (x first : UnwindInfo) → length xs ≡ most_records → slice_index_or xs 0 x ≡ x → x ≡ first →
     Unwinds t b f.unwind_info_address (Ok (unwind_view first)) → IsChain t b (Some f) (map unwind_view (take 1 xs)) first.chained_info
-chain_first t b f xs x first long at same u =
-    let is : take 1 xs ≡ first ∷ [] = take_more xs 0 x (omega (arith, long)) ∙ ap (λ (y : UnwindInfo). y ∷ []) (at ∙ same) in
-    rw is (u, refl)
-
--- how many views of the first records there are
-many_taken : (xs : List UnwindInfo) (n : ℕ) → n ≤ length xs → length (map unwind_view (take n xs)) ≡ n
-many_taken xs n le = length-map (take n xs) unwind_view ∙ length-take-le n xs le
+chain_first t b f xs x first long at same u = grind (arith, take_more)
 
 -- the first record cannot be read
 pub refused_at_once : (t : Table) (b : List ℕ) (f : RuntimeFunction) (refusal : Refusal) → Unwinds t b f.unwind_info_address (Err refusal) → PlansShort t b f (Err refusal)
@@ -40,9 +33,7 @@ refused_at_once t b f refusal u = ([], f, omega arith, refl, u)
 -- the chain comes to its root with the last record that there is room for
 pub root_at_last : (t : Table) (b : List ℕ) (f : RuntimeFunction) (xs : List UnwindInfo) (n : ℕ) (o : Option RuntimeFunction) → length xs ≡ most_records → n ≡ most_records → o ≡ None →
     IsChain t b (Some f) (map unwind_view (take n xs)) o → PlansShort t b f (Ok (Some (map unwind_view (take 32 xs))))
-root_at_last t b f xs n o long is none chain =
-    let all : IsChain t b (Some f) (map unwind_view (take 32 xs)) o = subst (λ (k : ℕ). IsChain t b (Some f) (map unwind_view (take k xs)) o) is chain in
-    (subst (λ (e : Option RuntimeFunction). IsChain t b (Some f) (map unwind_view (take 32 xs)) e) none all, omega (arith, many_taken xs 32 (omega (arith, long))))
+root_at_last t b f xs n o long is none chain = grind (arith, length-map, length-take-le)
 
 -- what refuses the records refuses the plan
 pub plan_refused : (law : RecordLaw) (t : Table) (b : List ℕ) (f : RuntimeFunction) (refusal : Refusal) → PlansShort t b f (Err refusal) → PlansFrom t b f (Err refusal)

@@ -1,7 +1,7 @@
 -- The two walks over a chain: to count its records, and to take them.
 use Rattle.std.proofs.Common.{◌≡◌, ℕ, suc, ◌+◌, ◌^◌, ◌<◌, ◌≤◌, List, [], ◌∷◌, ◌++◌, length, Option, Some, None, Result, Ok, Err, IfSome, map, inl, refl, sym, subst, arith, length-append}
 use Rattle.std.proofs.lemmas.List.{length-map, map_push}
-use Rattle.pe_core.specs.Refusals.{Refusal, Memory, FunctionCycle}
+use Rattle.pe_core.specs.Refusals.{Refusal}
 use Rattle.pe_unwind.specs.declared.function_table.RuntimeFunction.{RuntimeFunction}
 use Rattle.pe_unwind.specs.Links.{Table}
 use Rattle.pe_unwind.specs.UnwindRecord.{UnwindInfoView, unwind_view}
@@ -32,17 +32,8 @@ pub record IsChained (t : Table) (b : List ℕ) (current next : RuntimeFunction)
   pub chained : info.chained_info ≡ Some next
   pub small : next.unwind_info_address < 2 ^ 32
 
-small_more : (t : Table) (b : List ℕ) (f current next : RuntimeFunction) (is : List UnwindInfoView) (i : UnwindInfoView) → IsChain t b (Some f) is (Some current) → AreBelow (2 ^ 32) (Some f) is → i.chained_info ≡ Some next → next.unwind_info_address < 2 ^ 32 → AreBelow (2 ^ 32) (Some f) (is ++ i ∷ [])
-small_more t b f current next is i p small to last =
-    below_more t b (2 ^ 32) (Some f) current is i p small (subst (λ (o : Option RuntimeFunction). AreBelow (2 ^ 32) o []) (sym to) last)
-
 counted_more : (t : Table) (b : List ℕ) (f current next : RuntimeFunction) (n saved later : ℕ) (c : CountedTo t b f n current saved) (to : IsChained t b current next) → Marked t b f (c.records ++ to.info ∷ []) next later → CountedTo t b f (n + 1) next later
-counted_more t b f current next n saved later c to way = record {
-  records = c.records ++ to.info ∷ [];
-  many = omega (arith, c.many, length-append c.records (to.info ∷ []));
-  small = small_more t b f current next c.records to.info c.way.chain c.small to.chained to.small;
-  way = way;
-}
+counted_more t b f current next n saved later c to way = grind (arith, length-append, next, below_more)
 
 -- one record more, by which the saved address stays
 pub keeps_saved : (t : Table) (b : List ℕ) (f current next : RuntimeFunction) (n saved same : ℕ) → CountedTo t b f n current saved → IsChained t b current next → same ≡ saved → CountedTo t b f (n + 1) next same
@@ -90,14 +81,7 @@ record Next (t : Table) (b : List ℕ) (f : RuntimeFunction) (count : ℕ) (reco
 next_at : (t : Table) (b : List ℕ) (f : RuntimeFunction) (count : ℕ) (records rest : List UnwindInfoView) (here : Option RuntimeFunction) (current : RuntimeFunction) → IsChain t b (Some f) records here → IsChain t b here rest None → length records + length rest ≡ count → IfSome here (λ g. g ≡ current) → length records < count → Next t b f count records current
 next_at t b f count records [] here current p q many is more = absurd (omega arith)
 next_at t b f count records (i ∷ rest) None current p q many is more = absurd q
-next_at t b f count records (i ∷ rest) (Some g) current p q many is more = record {
-  info = i;
-  rest = rest;
-  chain = subst (λ (h : RuntimeFunction). IsChain t b (Some f) records (Some h)) is p;
-  unwinds = subst (λ (h : RuntimeFunction). Unwinds t b h.unwind_info_address (Ok i)) is q.0;
-  ahead = q.1;
-  many = many;
-}
+next_at t b f count records (i ∷ rest) (Some g) current p q many is more = grind (arith)
 
 next : (t : Table) (b : List ℕ) (f : RuntimeFunction) (count : ℕ) (records : List UnwindInfoView) (current : RuntimeFunction) → TakenTo t b f count records current → length records < count → Next t b f count records current
 next t b f count records current s more = next_at t b f count records s.rest s.here current s.chain s.ahead s.many s.is_current more
@@ -125,8 +109,7 @@ takes_more law t b f count records current later i s more u to =
 
 -- the same of records that are seen through their view
 pub takes_next : (law : RecordLaw) (t : Table) (b : List ℕ) (f : RuntimeFunction) (count : ℕ) (xs ys : List UnwindInfo) (x : UnwindInfo) (current later : RuntimeFunction) → TakenTo t b f count (map unwind_view xs) current → length xs < count → Unwinds t b current.unwind_info_address (Ok (unwind_view x)) → IfSome x.chained_info (λ h. h ≡ later) → ys ≡ xs ++ x ∷ [] → TakenTo t b f count (map unwind_view ys) later
-takes_next law t b f count xs ys x current later s more u to same =
-    rw same (rw map_push (takes_more law t b f count (map unwind_view xs) current later (unwind_view x) s (omega (arith, more, length-map xs unwind_view)) u to))
+takes_next law t b f count xs ys x current later s more u to same = grind (arith, map_push, takes_more, length-map)
 
 pub goes_on : (o : Option RuntimeFunction) (next later : RuntimeFunction) → o ≡ Some next → later ≡ next → IfSome o (λ h. h ≡ later)
 goes_on o next later is same = rw is (sym same)
@@ -136,11 +119,7 @@ goes_nowhere o later is = rw is tt
 
 -- what both walks return
 pub counted : (t : Table) (b : List ℕ) (f : RuntimeFunction) (k : Refusal) → Counts t b f (Err k) → PlansFrom t b f (Err k)
-counted t b f Memory c = absurd c
-counted t b f FunctionCycle c = c
-counted t b f refusal c = c
+counted t b f k c = grind arith
 
 pub taken : (t : Table) (b : List ℕ) (f : RuntimeFunction) (n : ℕ) (x : Result (List UnwindInfoView) Refusal) → HasLength t b f n → Takes t b f x → PlansFrom t b f x
-taken t b f n (Ok is) h s = s
-taken t b f n (Err Memory) h s = (h.0, h.2)
-taken t b f n (Err other) h s = absurd s
+taken t b f n x h s = grind arith

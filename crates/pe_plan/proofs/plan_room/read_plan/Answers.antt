@@ -1,4 +1,4 @@
-use Rattle.std.proofs.Common.{◌≡◌, Some, arith, subst, map, take}
+use Rattle.std.proofs.Common.{Some, arith, subst, map, take}
 use Rattle.pe_unwind.specs.Links.{links_with}
 use Rattle.std.proofs.lemmas.List.{length-set}
 use Rattle.pe_unwind.specs.UnwindRecord.{unwind_view}

@@ -1,4 +1,4 @@
-use Rattle.std.proofs.Common.{◌≡◌, ◌↔◌, Result, Err}
+use Rattle.std.proofs.Common.{◌↔◌, Result, Err}
 use Rattle.std.proofs.lemmas.Result.{err_from_is_err_and}
 use Rattle.pe_core.proofs.Steps.{other_value}
 use Rattle.pe_core.specs.Refusals.{Refusal}
