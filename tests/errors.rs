@@ -3,6 +3,7 @@
 use std::fmt::{self, Debug, Write};
 
 /// The start of a text.
+#[derive(Drop)]
 struct Start {
     bytes: [u8; 160],
     length: usize,
