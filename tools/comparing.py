@@ -34,7 +34,7 @@ def same(what, ours, theirs):
 # Arguments, files and programs.
 
 def arguments(about, *places, words=None, one=(), **options):
-    """The arguments of a tool, whose use is the second paragraph of what is said about it: places by their names, with + or * behind that
+    """The arguments of a tool, whose use is the second paragraph of what is said about it: places by their names, with + or * after that
     of a list, and options with what they are unless they are named: False of a flag, [] of a list, a number, a text, None, or ... where
     each run names it. Of those in `one` each run names one. `refuse` ends the tool with the use and a text. `words` are those of the command line, unless
     they are given."""

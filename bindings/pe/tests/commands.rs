@@ -2064,7 +2064,7 @@ fn what_is_not_looked_at_is_in_json() {
     assert_eq!((&found["before_not_whole"][0]["part"], &found["after_not_whole"]), (&json!("imports"), &json!([])));
 }
 
-/// Whoever sets another file than a manifest is told: Windows does not start an image with one that it cannot read.
+/// Of another file than a manifest there is a warning: Windows does not start an image with one that it cannot read.
 #[test]
 fn what_is_no_manifest_is_said() {
     let folder = Folder::new("no-manifest");
