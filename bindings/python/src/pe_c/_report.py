@@ -6,7 +6,6 @@ import html
 import os
 import subprocess
 import tempfile
-from collections.abc import Iterable
 
 # What a notebook keeps of a page: a file of 5,000 exports has 1.6 MB.
 MOST = 8 << 20
@@ -20,7 +19,7 @@ class Report:
         self.page = page
 
     @classmethod
-    def of(cls, data: memoryview, path: str, program: str, options: Iterable[str] = ()) -> Report:
+    def of(cls, data: memoryview, path: str, program: str, options: tuple[str, ...] | list[str] = ()) -> Report:
         with tempfile.TemporaryDirectory() as room:
             name = os.path.join(room, os.path.basename(path) or "image")
             with open(name, "wb") as file:
