@@ -267,6 +267,12 @@ pub fn complaints_of_hardening(facts: &Facts) -> String {
     said.map(|it| format!("pe: {}: {it}\n", escaped(&facts.file))).collect()
 }
 
+/// Says that a part is not read of a TE image or an object, of which there is no table then, as a line for standard error.
+pub fn complaint_of_unread(facts: &Facts, topic: Topic) -> String {
+    let kind = facts.file_kind.filter(|_| facts.is_not_read(topic));
+    kind.map_or(String::new(), |kind| format!("pe: {}: {}: not read of {kind}\n", escaped(&facts.file), topic.name()))
+}
+
 /// What is refused, and of which parts the image has more than is looked at, as lines for standard error.
 pub fn complaints(facts: &Facts) -> String {
     let file = escaped(&facts.file);

@@ -90,7 +90,10 @@ pub fn detach(path: &Path, image: Result<Image<'_>, Error>, to: &Target) -> Repo
     let has_none = image.as_ref().is_ok_and(|it| it.certificates().next().is_none());
     let made = deliver(image.and_then(|it| it.detach()), path, to);
     match has_none && made.status == Status::Done {
-        true => Report { complaints: complaint(path, "it has no certificates: nothing is detached"), ..made },
+        true => Report {
+            complaints: complaint(path, "it has no certificates: nothing is detached, and the checksum is set"),
+            ..made
+        },
         false => made,
     }
 }

@@ -131,9 +131,10 @@ fn hashes_of(facts: &Facts, page: &mut Page) {
 /// When the image was built. The time stamp of a reproducible build is none.
 pub fn built(headers: &Headers) -> String {
     match (headers.is_reproducible, headers.stamp.seconds) {
-        (true, 0) => "reproducibly".to_string(),
-        (true, stamp) => format!("reproducibly, time stamp {stamp:#010x} is a hash"),
-        (false, stamp) => stamped(stamp),
+        (Some(true), 0) => "reproducibly".to_string(),
+        (Some(true), stamp) => format!("reproducibly, time stamp {stamp:#010x} is a hash"),
+        (None, stamp) if stamp != 0 => format!("{}, if that is no hash: the debug data are refused", stamped(stamp)),
+        (_, stamp) => stamped(stamp),
     }
 }
 
@@ -223,8 +224,8 @@ fn tables_of(facts: &Facts, page: &mut Page) {
     }
     more_of(facts, page);
     for certificate in facts.certificates.iter().filter_map(Part::present).flat_map(|it| &it.entries) {
-        let signer =
-            certificate.signer.as_ref().map_or(String::new(), |it| format!(", by {}", escaped(&it.to_string())));
+        let by = if certificate.signer.is_some() { "by " } else { "" };
+        let signer = certificate.said_of_signer().map_or(String::new(), |it| format!(", {by}{it}"));
         let (kind, size) = (&certificate.r#type, certificate.size);
         page.row("certificate", format_args!("{kind}, {size} bytes{signer}, not verified"));
     }

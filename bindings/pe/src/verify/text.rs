@@ -51,7 +51,12 @@ pub fn of(verified: &Verified, style: Style) -> String {
     }
     for catalog in verified.catalogs.iter().filter(|it| !it.is_listed) {
         let entries = if catalog.entries == 1 { "entry" } else { "entries" };
-        let said = format!("{}, which does not list the image ({} {entries})", escaped(&catalog.file), catalog.entries);
+        let unread = match catalog.entries_not_read {
+            0 => String::new(),
+            count => format!(", of which {count} without a digest that is read here"),
+        };
+        let file = escaped(&catalog.file);
+        let said = format!("{file}, which does not list the image ({} {entries}{unread})", catalog.entries);
         page.row("catalog", said);
     }
     if verified.other_entries > 0 {
