@@ -7,7 +7,6 @@ mod map;
 mod markup;
 mod overview;
 
-use crate::escape::escaped;
 use crate::facts::debug::Debug;
 use crate::facts::regions::{self, Region};
 use crate::facts::{count_of, Facts, Part, Refusal, Wanted};
@@ -58,7 +57,7 @@ fn write_page(facts: &Facts, image: Option<&Image<'_>>, out: &mut dyn Write) -> 
         (None, None) => html.text("refused: no image"),
     };
     html.markup(" · ").text(grouped(facts.file_size as u64)).markup(" bytes</p><p class=path>");
-    html.text(escaped(&facts.file)).markup("</p></header>");
+    html.text(facts.shown_file()).markup("</p></header>");
     overview::of(facts, &mut html);
     let version = facts.version.as_ref().and_then(|it| it.said_of_name());
     let notes: Vec<String> = facts.cut().into_iter().chain(version).collect();

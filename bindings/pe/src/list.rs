@@ -118,7 +118,7 @@ fn counts_of(facts: &Facts) -> Vec<Cell> {
 fn row_of(facts: &Facts) -> Vec<Cell> {
     let refused = facts.refusals();
     let first = refused.first().map(|(part, refusal)| format!("{part}: {refusal}{}", facts.said_of_kind()));
-    let own = vec![cell("file", &facts.file), cell("file_size", facts.file_size), ("error", first)];
+    let own = vec![cell("file", facts.shown_file()), cell("file_size", facts.file_size), ("error", first)];
     let limited: Vec<String> = facts.limited().into_iter().map(String::from).chain(facts.cut()).collect();
     let limited = Some(limited.join("; ")).filter(|it| !it.is_empty());
     [

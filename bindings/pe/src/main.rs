@@ -202,17 +202,19 @@ fn verify_images(command: &Command, out: &mut dyn Write) -> io::Result<Status> {
     let Some(given) = given_to_verify(roots, crls, catalogs) else {
         return Ok(Status::FileError);
     };
-    let (reading, is_any) = (strict.reading(), AtomicBool::new(false));
+    let (reading, is_any, is_cut) = (strict.reading(), AtomicBool::new(false), AtomicBool::new(false));
     let worst = files::each(files, out, |path, bytes| {
         let made = of_image((path, bytes), &reading, |image| {
             let image = image.map_err(|error| refusal_with_kind(error, bytes, &reading));
             verify::report(path, image, &given, output.json)
         });
         is_any.fetch_or(made.is_image, Ordering::Relaxed);
+        is_cut.fetch_or(!made.is_image && bytes.starts_with(b"MZ"), Ordering::Relaxed);
         made
     })?;
-    // Where no image is below the folders no signature was found to be good.
-    Ok(if is_any.load(Ordering::Relaxed) { worst } else { worst.max(Status::Refused) })
+    // Where no image is below the folders, or one that is truncated is skipped, not all signatures were found to be good.
+    let is_whole = is_any.load(Ordering::Relaxed) && !is_cut.load(Ordering::Relaxed);
+    Ok(if is_whole { worst } else { worst.max(Status::Refused) })
 }
 
 /// `pe key`: the paths on a symbol server.

@@ -1,6 +1,5 @@
 //! Images with a certificate, without certificates, or with another checksum, as new files. What is written is the library's.
 
-use crate::escape::escaped;
 use crate::facts::headers::checksum_state;
 use crate::facts::{Origin, Refusal};
 use crate::files::{self, Report};
@@ -139,7 +138,7 @@ pub fn checksum(path: &Path, image: Result<Image<'_>, Error>, is_json: bool) -> 
                 "right" => format!("{own:#010x}, right"),
                 _ => format!("{own:#010x}, wrong: {right:#010x} is right"),
             };
-            Report::of(format!("{}: {state}\n", escaped(&origin.file)), Status::Done)
+            Report::of(format!("{}: {state}\n", origin.shown_file()), Status::Done)
         }
         Err(error) if is_json => {
             let error = Some(error.into());

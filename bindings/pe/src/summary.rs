@@ -39,7 +39,7 @@ pub fn text(facts: &Facts, style: Style) -> String {
 }
 
 fn heading_of(facts: &Facts) -> String {
-    let file = escaped(&facts.file);
+    let file = facts.shown_file();
     match (&facts.headers, &facts.other_headers) {
         (Some(headers), _) => format!("{file}: {}", kind_of(headers)),
         (None, Some(headers)) => format!("{file}: {}", other_kind_of(headers)),

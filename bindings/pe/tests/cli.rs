@@ -674,6 +674,11 @@ fn the_man_page_has_each_command() {
         assert!(page.contains(&format!(".SS \"pe {}", command.replace('-', "\\-"))), "{command}");
     }
     assert!(page.contains(".TP\n\\fB\\-r\\fR, \\fB\\-\\-recursive\\fR\nTake each FILE"));
+    // The value of an option has its name, and the parts are named.
+    assert!(
+        page.contains("\n\\fB\\-\\-parts\\fR \\fIPART,..\\fR\n") && page.contains("\n\\fB\\-\\-fix\\fR \\fIOUT\\fR\n")
+    );
+    assert!(page.contains("\nOne of headers, hardening, hashes, sections, imports, exports, debug, "));
     let folder = Folder::new("man");
     let file = folder.file("pe.1", page.as_bytes());
     match Command::new("groff").args(["-man", "-Tutf8", "-ww", &file]).output() {

@@ -1425,6 +1425,17 @@ fn a_path_that_is_no_text_can_be_opened_again() {
     let said: Value = serde_json::from_slice(&ran.stdout).unwrap();
     let hex: String = path.as_os_str().as_bytes().iter().map(|it| format!("{it:02x}")).collect();
     assert_eq!(said["file_hex"], hex);
+    // Two such paths are told apart in text and tables, and where they are refused.
+    let said = |words: &[&str], path: &std::path::Path| {
+        let ran = Command::new(env!("CARGO_BIN_EXE_pe")).args(words).arg(path).output().unwrap();
+        String::from_utf8([ran.stdout, ran.stderr].concat()).unwrap()
+    };
+    for words in [&[][..], &["show"], &["list"], &["digest"], &["checksum"], &["verify"], &["key"], &["find", "kernel"]]
+    {
+        let said = [said(words, &path), said(words, &folder.0.join(std::ffi::OsStr::from_bytes(b"\xfe")))];
+        assert!(words.first() == Some(&"find") || said[0].contains("/\\xff.exe"), "{words:?}: {}", said[0]);
+        assert!(said[1].contains("/\\xfe: No such file"), "{words:?}: {}", said[1]);
+    }
     // Where no command comes first, words that are wrong are refused with the usage of the program.
     let words = ["--no-hashes", "--parts", "hashes"];
     let ran = Command::new(env!("CARGO_BIN_EXE_pe")).arg(&path).args(words).output().unwrap();

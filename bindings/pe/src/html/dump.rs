@@ -2,7 +2,6 @@
 
 use super::markup::Html;
 use super::{end, filter, grouped, head, list, table, warnings, OPEN_ROWS, ROWS};
-use crate::escape::escaped;
 use crate::facts::counted;
 use crate::files;
 use crate::new_file::Target;
@@ -34,7 +33,7 @@ fn write_page(told: &Told, size: usize, out: &mut dyn Write) -> io::Result<()> {
     let name = Path::new(&told.origin.file).file_name().map(|it| it.to_string_lossy()).unwrap_or_default();
     head(&name, &mut html);
     html.markup("<header><h1>").text(&name).markup("</h1><p>minidump · ").text(grouped(size as u64));
-    html.markup(" bytes</p><p class=path>").text(escaped(&told.origin.file)).markup("</p></header>");
+    html.markup(" bytes</p><p class=path>").text(told.origin.shown_file()).markup("</p></header>");
     let mut refused = told.refusals();
     refused.extend(told.damaged_tables().map(|(_, it)| ("function table of a module", it)));
     refused.extend(told.damaged_names().map(|(_, _, it)| ("names of a module", it)));

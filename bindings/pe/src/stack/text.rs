@@ -18,7 +18,7 @@ const GUID_DIGITS: usize = 32;
 /// Writes the text, a thread at a time.
 pub fn write(told: &Told, style: Style, out: &mut dyn Write) -> io::Result<()> {
     let mut page = Page::new(style);
-    page.heading(&escaped(&told.origin.file));
+    page.heading(&told.origin.shown_file());
     for (label, value) in summary(told) {
         page.row(label, value);
     }

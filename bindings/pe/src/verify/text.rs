@@ -39,7 +39,7 @@ fn words_of_digest(digest: &Compared) -> String {
 
 pub fn of(verified: &Verified, style: Style) -> String {
     let mut page = Page::new(style);
-    page.heading(&escaped(&verified.origin.file));
+    page.heading(&verified.origin.shown_file());
     for signature in &verified.signatures {
         signature_of(signature, &mut page);
     }
