@@ -12,6 +12,8 @@ use crate::facts::regions::{self, Region};
 use crate::facts::{count_of, Facts, Part, Refusal, Wanted};
 use crate::files;
 use crate::new_file::Target;
+use crate::show;
+use crate::streams::complain;
 use crate::summary::kind_of;
 use crate::tables::{self, Row, Table};
 use crate::Status;
@@ -43,7 +45,10 @@ pub fn write_to(
         Err(error) => Facts::refused(path, bytes, error.clone()),
     };
     let status = if facts.is_refused() { Status::Refused } else { Status::Done };
-    files::deliver_written(to, status, out, &mut |out| write_page(&facts, image.as_ref().ok(), out))
+    let written = files::deliver_written(to, status, out, &mut |out| write_page(&facts, image.as_ref().ok(), out))?;
+    // Who makes the page need not open it.
+    complain(show::complaints(&facts));
+    Ok(written)
 }
 
 fn write_page(facts: &Facts, image: Option<&Image<'_>>, out: &mut dyn Write) -> io::Result<()> {

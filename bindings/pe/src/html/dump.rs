@@ -6,6 +6,7 @@ use crate::facts::counted;
 use crate::files;
 use crate::new_file::Target;
 use crate::stack::{self, Asked, Places, Told};
+use crate::streams::{complain, complaint};
 use crate::tables::Table;
 use crate::Status;
 use std::io::{self, Write};
@@ -25,7 +26,9 @@ pub fn write_to(
     let told = stack::told(path, bytes, places, asked);
     let is_refused = stack::lacks_thread(&told, path, asked) || told.is_refused();
     let status = if is_refused { Status::Refused } else { Status::Done };
-    files::deliver_written(to, status, out, &mut |out| write_page(&told, bytes.len(), out))
+    let written = files::deliver_written(to, status, out, &mut |out| write_page(&told, bytes.len(), out))?;
+    told.refusals().into_iter().for_each(|(part, it)| complain(complaint(path, format_args!("{part}: {it}"))));
+    Ok(written)
 }
 
 fn write_page(told: &Told, size: usize, out: &mut dyn Write) -> io::Result<()> {
