@@ -273,7 +273,7 @@ fn damaged_parts_are_warnings_and_cost_themselves() {
 /// The directory of the imports at an RVA that no section maps. JSON has the text of the error alone.
 #[test]
 fn a_directory_that_is_refused_is_a_warning_with_its_numbers() {
-    let folder = Folder::new("refused");
+    let folder = Folder::new("refused-directory");
     let mut bytes = made::with_refused_import();
     bytes[0xC8 + 8..][..4].copy_from_slice(&0x0765_4321_u32.to_le_bytes());
     let file = folder.file("a.exe", &bytes);
@@ -567,7 +567,7 @@ fn names_and_lists_that_entries_share_are_shown_up_to_a_bound() {
 /// Without a bound these take minutes.
 #[test]
 fn lists_that_are_refused_after_a_long_name_are_shown_up_to_a_bound() {
-    let folder = Folder::new("refused");
+    let folder = Folder::new("refused-lists");
     type Make = fn(usize, usize) -> Vec<u8>;
     let parts: [(_, _, Make); 3] = [
         ("imports", "functions_error", limited::refused_imports),
