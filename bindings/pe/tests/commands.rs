@@ -1462,6 +1462,13 @@ fn lines_fit_the_columns() {
         let starts: Vec<_> = said.lines().filter(|it| it.contains(" at 0x")).map(|it| it.find(" at 0x")).collect();
         assert!(starts.len() > 1 && starts.iter().all(|it| *it == starts[0]), "{columns}: {starts:?}\n{said}");
     }
+    // In the fewest columns no word is broken that has room in a line.
+    let said = said_in(Some(20), &[&folder.file("b.exe", made::SMALL)]);
+    assert!(
+        said.contains("\n  hardening\n    yes: has a\n    signature entry,\n    no writable\n    code; no: ASLR,\n"),
+        "{said}"
+    );
+    assert!(said.lines().skip(2).all(|it| columns_of(it) <= 20), "{said}");
 }
 
 /// How many columns of a terminal a line takes: two of each letter of East Asia.
