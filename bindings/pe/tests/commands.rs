@@ -271,6 +271,20 @@ fn certificates_are_attached_and_detached() {
     assert_eq!((out.as_str(), error.contains("pem: it is PEM, and not DER"), status), ("", true, 1), "{error}");
     let short = folder.file("short.txt", b"short");
     assert_eq!(run(&["attach", &bare, &short, "-"]).1, format!("pe: {short}: truncated (SHORT)\n"));
+    // What has no entry is refused, and an entry without signed data is warned of.
+    for (given, why) in [
+        (&[0; 100][..], "invalid certificate revision (CERTIFICATE_REVISION)"),
+        (&[8, 0, 0, 0, 0, 2, 2, 0, 8, 0, 0, 0, 0, 0, 0, 0], "invalid certificate revision (CERTIFICATE_REVISION)"),
+    ] {
+        let given = folder.file("zeros", given);
+        let refused = path("refused.exe");
+        assert_eq!(run(&["attach", &bare, &given, &refused]), (String::new(), format!("pe: {given}: {why}\n"), 1));
+        assert!(!folder.0.join("refused.exe").exists());
+    }
+    let bare_entry = folder.file("entry", &[8, 0, 0, 0, 0, 2, 2, 0]);
+    let (_, error, status) = run(&["attach", &bare, &bare_entry, &path("entry.exe")]);
+    let why = format!("pe: {bare_entry}: it is attached, and is no PKCS #7 signed data: ");
+    assert_eq!((error.starts_with(&why), status), (true, 0), "{error}");
     let said = json_of("attached", &fs::read(&signed).unwrap());
     let pkcs7 = json!({"number": 2, "name": "PKCS #7 signed data"});
     let certificate = &said["certificates"][0];
