@@ -269,7 +269,9 @@ fn more_of(facts: &Facts, page: &mut Page) {
     }
     if let Some(resources) = facts.resources.as_ref().and_then(Part::present) {
         let count = count_of(resources.entries.len(), resources.is_limited);
-        page.row("resources", format_args!("{count}, of {}", counted(resources.type_count(), "type")));
+        let lost = resources.entries.iter().filter(|it| it.error.is_some()).count();
+        let lost = if lost > 0 { format!("; {lost} whose content is not in the file") } else { String::new() };
+        page.row("resources", format_args!("{count}, of {}{lost}", counted(resources.type_count(), "type")));
     }
 }
 

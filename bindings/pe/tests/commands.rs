@@ -791,6 +791,7 @@ fn all_resources_are_extracted_into_a_folder() {
     let (_, complaints, status) = run(&["extract", &damaged, "resources", partly.to_str().unwrap()]);
     assert_eq!((complaints.contains("raw_data-6-1031: "), status), (true, 1), "{complaints}");
     assert_eq!(fs::read_dir(&partly).unwrap().count(), 2);
+    assert!(run(&[&damaged]).0.contains("; 1 whose content is not in the file\n"), "{}", run(&[&damaged]).0);
     // Leaves that share their content have more bytes than a file may ask for.
     let content = vec![7; 4096];
     let many: Vec<(u32, u32, &[u8])> = (1..=100).map(|it| (10, it, b"x".as_slice())).collect();

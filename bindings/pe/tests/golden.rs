@@ -210,7 +210,7 @@ const MADE: &[(&str, &[&str])] = &[
     (
         "named_resources",
         &[
-            "  resources     2, of 1 type\n",
+            "  resources     2, of 1 type; 1 whose content is not in the file\n",
             "  AB    #1    English (US)  0x1000    5      1252",
             "  AB    #1    German        0x990000  6      0          RVA maps to no file offset\n",
             "  warning       resources: resource data entry above the level of languages (TREE_NOT_DIRECTORY)\n",
