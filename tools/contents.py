@@ -67,7 +67,7 @@ def written_or_checked(tool_name, words, texts, complaints=None):
     """What a tool does that writes files whole, by their paths from the top: it writes those that differ, or with --check says which do,
     and what else is wrong. Returns its status."""
     if words not in ([], ["--check"]):
-        sys.exit(f"usage: tools/{tool_name} [--check]")
+        return misused(f"usage: tools/{tool_name} [--check]")
     unlike = [it for it in texts if not os.path.exists(os.path.join(TOP, it)) or text_of(TOP, it) != texts[it]]
     if not words:
         for it in unlike:

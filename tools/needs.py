@@ -90,9 +90,9 @@ GROUPS = {
     "pdb": by_hand("names and lines of pe by PDB files",
                    **{"clang": "clang", "lld-link": "lld", "ld.lld": "lld", "llvm-pdbutil": "llvm"}),
     "symbolizer": by_hand("frames of pe by PDB files beside llvm-symbolizer", **{"llvm-symbolizer-19": "llvm-19"}),
-    "readers": by_hand("exception data, names of functions, dumps and CLR headers by other readers", **{
-        "llvm-readobj": "llvm", "obj2yaml": "llvm", "module yaml": "python3-yaml", "pedump": "mono-utils", "monodis": "mono-utils",
-        f"{MINGW}-objdump": "binutils-mingw-w64-x86-64"}),
+    "readers": by_hand("exception data, names of functions and dumps by other readers", **{
+        "llvm-readobj": "llvm", "obj2yaml": "llvm", "module yaml": "python3-yaml", f"{MINGW}-objdump": "binutils-mingw-w64-x86-64"}),
+    "clr": by_hand("CLR headers by mono", **{"pedump": "mono-utils", "monodis": "mono-utils"}),
     "packages": by_hand("packages on bare trees", **{
         "mmdebstrap": "mmdebstrap", "unshare": "util-linux", "rpm2cpio": "rpm2cpio", "cpio": "cpio", "module ensurepip": "python3-venv",
         "npm": "npm", "node": "nodejs", "chromium": "chromium", "rustc 1.85": RUSTC, WINE: "wine64", "gcc": "gcc", "clang": "clang"}),

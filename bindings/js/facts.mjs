@@ -8,7 +8,7 @@ import { Image, modeOf, namedExports } from './image.mjs';
 import { bytesOf, memoryOf } from './calls.mjs';
 import { Memory } from './memory.mjs';
 import { Budget } from './parts.mjs';
-import { signerOf } from './signatures.mjs';
+import { readSigner } from './signatures.mjs';
 
 const utf8 = new TextDecoder('utf-8', { ignoreBOM: true }), strict = new TextDecoder('utf-8', { fatal: true });
 const CODE_AND_WRITABLE = 0xA0000000, PERMISSIONS = [[0x40000000, 'r'], [0x80000000, 'w'], [0x20000000, 'x']];
@@ -295,8 +295,8 @@ function recordOf(image, field) {
   return found[field];
 }
 
-/** Whether time stamps are a hash, which a Repro record says. */
-const isHashed = (image) => Boolean(attempt(() => recordOf(image, 'repro')));
+/** Whether time stamps are a hash, which a Repro record says; null where that is refused. */
+const isHashed = (image) => attempt(() => Boolean(recordOf(image, 'repro')));
 
 function debug(image) {
   const isHash = isHashed(image);
@@ -336,7 +336,8 @@ function debug(image) {
 
 function certificates(image) {
   const said = list('certificates', image.certificates(), (it) => (
-    { size: it.length, revision: it.revision, type: named(it.type, names.CERTIFICATE_TYPES), signer: signerOf(image, it) }));
+    { size: it.length, revision: it.revision, type: named(it.type, names.CERTIFICATE_TYPES),
+      ...part('signer', () => readSigner(image, it)) }));
   return said.certificates.length || said.certificates_error ? said : { ...said, certificates: null };
 }
 

@@ -165,17 +165,18 @@ function certificateOf(image, signature, { issuer, serial }) {
   return null;
 }
 
-/** The first signer of a certificate that is a signature; null where it is refused, and of what is no signature. */
-export function signerOf(image, certificate) {
-  return orNull(() => {
-    if (certificate.type !== PKCS_SIGNED_DATA) return null;
-    const signature = read(image, 'pe_c_signature', certificate.body);
-    const { value: signer } = each(image, 'pe_c_signer', signature.signers).next();
-    if (!signer) return null;
-    const own = certificateOf(image, signature, signer);
-    return {
-      subject: own && name(image, own.subject), issuer: name(image, signer.issuer), serial_hex: hex(image.slice(signer.serial)),
-      digest_algorithm: algorithmOf(image, signer.digest_algorithm), time_stamp: orNull(() => stamp(image, signer)),
-    };
-  });
+/** The first signer of a certificate that is a signature; null of what is no signature. Throws where it is refused. */
+export function readSigner(image, certificate) {
+  if (certificate.type !== PKCS_SIGNED_DATA) return null;
+  const signature = read(image, 'pe_c_signature', certificate.body);
+  const { value: signer } = each(image, 'pe_c_signer', signature.signers).next();
+  if (!signer) return null;
+  const own = certificateOf(image, signature, signer);
+  return {
+    subject: own && name(image, own.subject), issuer: name(image, signer.issuer), serial_hex: hex(image.slice(signer.serial)),
+    digest_algorithm: algorithmOf(image, signer.digest_algorithm), time_stamp: orNull(() => stamp(image, signer)),
+  };
 }
+
+/** The same; null where it is refused too. */
+export const signerOf = (image, certificate) => orNull(() => readSigner(image, certificate));

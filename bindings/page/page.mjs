@@ -95,7 +95,8 @@ function overview(to, { headers, version, debug, clr }) {
     ['Format', [headers.format ?? 'no optional header', headers.is_dll ? 'DLL' : '', named(headers.machine)].filter(Boolean)
       .join(', ')],
     ['Subsystem', named(headers.subsystem)],
-    ['Built', headers.time ?? (headers.is_reproducible ? 'reproducibly, without a time' : 'without a time stamp')],
+    ['Built', headers.time ? headers.time + (headers.is_reproducible === null ? ', if that is no hash: the debug data are refused' : '')
+      : headers.is_reproducible ? 'reproducibly, without a time' : 'without a time stamp'],
     ['Entry point', hex(headers.entry_rva)],
     ['Image base', hex(headers.image_base_va)],
     ['Size in memory', `${headers.size_of_image.toLocaleString('en')} bytes`],
@@ -161,7 +162,8 @@ function exported(to, facts) {
     it.names.map((name) => escaped(name)).join(', '), shown(it, 'forwarder')]), [0, 1]));
 }
 
-const signer = (it) => (it ? escaped(it.subject ?? `number ${it.serial_hex} of ${it.issuer}`) : '');
+const signer = ({ signer: it, signer_error: error }) => (it ? escaped(it.subject ?? `number ${it.serial_hex} of ${it.issuer}`)
+  : error ? `refused: ${error.text}` : '');
 
 const GUARDS = {
   se_handlers: 'Exception handlers', guarded_functions: 'Guarded functions', guarded_iat_entries: 'Guarded imports',
@@ -187,7 +189,7 @@ function others(to, facts) {
     ['Data directories', facts.headers.directories, null, ['Directory', 'Start', 'Size'], (it) => [it.name,
       it.rva === null ? `file offset ${hex(it.file_offset)}` : `RVA ${hex(it.rva)}`, hex(it.size)], [2]],
     ['Certificates, not verified', facts.certificates, facts.certificates_error, ['Type', 'Size', 'Signer', 'Time stamp'], (it) => [
-      named(it.type), it.size, signer(it.signer), it.signer?.time_stamp ?? ''], [1]],
+      named(it.type), it.size, signer(it), it.signer?.time_stamp ?? ''], [1]],
     ['Resources', facts.resources, facts.resources_error, ['Type', 'Name', 'Language', 'RVA', 'Size'], (it) => [label(it.type),
       label(it.name), label(it.language), hex(it.rva), it.size], [3, 4]],
     ['Debug entries', facts.debug.entries, null, ['Type', 'Size', 'RVA', 'File offset'], (it) => [named(it.type), it.size,

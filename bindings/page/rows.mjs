@@ -57,7 +57,9 @@ const hashed = (it) => (it.sha256_hex ? `, SHA-256 ${it.sha256_hex.slice(0, 16)}
 
 function built({ is_reproducible: isReproducible, time_date_stamp: stamp, time }) {
   if (isReproducible) return stamp === 0 ? 'reproducibly' : `reproducibly, time stamp ${wide(stamp)} is a hash`;
-  return stamp === 0 ? 'without a time stamp' : `${time.replace('T', ' ').replace('Z', ' UTC')} by its time stamp`;
+  if (stamp === 0) return 'without a time stamp';
+  const said = `${time.replace('T', ' ').replace('Z', ' UTC')} by its time stamp`;
+  return isReproducible === null ? `${said}, if that is no hash: the debug data are refused` : said;
 }
 
 /** The rows of the optional header that few look at. */
@@ -158,7 +160,8 @@ function debug({ debug: { pdb, pdb20, repro, embedded_pdb: embedded, pdb_checksu
 }
 
 function signers({ certificates }) {
-  return (certificates ?? []).filter((it) => it.signer).map(({ signer: it }) => {
+  return (certificates ?? []).filter((it) => it.signer ?? it.signer_error).map(({ signer: it, signer_error: error }) => {
+    if (!it) return ['a signature that is refused', `${error.text} (${error.name})`];
     const number = `number ${it.serial_hex} of ${escaped(it.issuer)}`, stamp = it.time_stamp === null ? '' : `, stamped ${it.time_stamp}`;
     return [it.subject === null ? number : escaped(it.subject), `${number}, by ${it.digest_algorithm}${stamp}`];
   });

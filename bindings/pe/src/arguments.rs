@@ -350,7 +350,7 @@ pub enum Command {
         #[command(flatten)]
         reading: Reading,
     },
-    /// Write an image with a certificate to a new file.
+    /// Write an image with a certificate, and with the right checksum, to a new file.
     Attach {
         /// The image.
         file: PathBuf,
@@ -364,7 +364,7 @@ pub enum Command {
         #[command(flatten)]
         strict: Strict,
     },
-    /// Write an image without its certificates to a new file.
+    /// Write an image without its certificates, and with the right checksum, to a new file.
     Detach {
         /// The image.
         file: PathBuf,
@@ -653,6 +653,12 @@ impl NewVersion {
     pub fn is_empty(&self) -> bool {
         self.all_strings().next().is_none()
     }
+
+    /// The name of a string that is named before, in upper or lower case.
+    pub fn repeated(&self) -> Option<&str> {
+        let is_before = |at: usize| self.strings[..at].iter().any(|it| it.0.eq_ignore_ascii_case(&self.strings[at].0));
+        (0..self.strings.len()).find(|at| is_before(*at)).map(|at| self.strings[at].0.as_str())
+    }
 }
 
 /// What is done with a strong name.
@@ -670,7 +676,9 @@ fn language(text: &str) -> Result<u16, String> {
 fn version_numbers(text: &str) -> Result<[u16; 4], String> {
     let (mut numbers, mut count) = ([0; 4], 0);
     for part in text.split('.') {
-        let number = part.parse().map_err(|_| "a version is numbers below 65536 with dots between them".to_string())?;
+        // A sign is none of them.
+        let number = part.parse().ok().filter(|_| !part.starts_with('+'));
+        let number = number.ok_or("a version is numbers below 65536 with dots between them")?;
         *numbers.get_mut(count).ok_or("a version has at most four numbers")? = number;
         count += 1;
     }

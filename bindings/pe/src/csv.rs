@@ -1,7 +1,7 @@
 //! The table of a part as CSV: a line of heads, and one for each row (<https://www.rfc-editor.org/rfc/rfc4180>). Texts stand as the
 //! image has them, but on a terminal, where they are escaped.
 
-use crate::escape::{escaped, raw};
+use crate::escape::raw;
 use crate::facts::{Facts, Part, Topic};
 use crate::tables::{self, Row, Table};
 
@@ -107,7 +107,7 @@ pub struct Lines {
 pub fn lines(facts: &Facts, (topic, name): (Topic, Option<&str>), has_file: bool) -> Lines {
     let table = raw(|| name.map_or_else(|| table_of(facts, topic), |name| other_of(facts, topic, name)));
     let Some(table) = table else { return Lines { head: String::new(), rows: String::new() } };
-    let file = raw(|| escaped(&facts.file));
+    let file = raw(|| facts.shown_file());
     let first = |text| has_file.then_some(text).into_iter();
     let heads = first("file").chain(table.columns.iter().map(|it| it.head)).collect();
     let rows = table.rows.iter().map(|row| first(file.as_str()).chain(row.iter().map(String::as_str)).collect());

@@ -160,7 +160,11 @@ fn debug_of(facts: &Facts) -> Rows {
 fn signers_of(facts: &Facts) -> Rows {
     let mut rows = Rows::default();
     let certificates = facts.certificates.iter().filter_map(Part::present).flat_map(|it| &it.entries);
-    for signer in certificates.filter_map(|it| it.signer.as_ref()) {
+    for it in certificates {
+        if let Some(Refusal { name, text, .. }) = &it.signer_error {
+            rows.put("a signature that is refused".to_string(), format!("{text} ({name})"));
+        }
+        let Some(signer) = &it.signer else { continue };
         let CertificateSigner { issuer, serial_hex, digest_algorithm, time_stamp, .. } = signer;
         let stamp = time_stamp.as_deref().map_or(String::new(), |it| format!(", stamped {it}"));
         let value = format!("number {serial_hex} of {}, by {digest_algorithm}{stamp}", escaped(issuer));

@@ -1,6 +1,5 @@
 //! The Authenticode digest of an image: SHA-256 over what the library says that a signature covers.
 
-use crate::escape::escaped;
 use crate::facts::hashes::authenticode_of;
 use crate::facts::{Origin, Refusal};
 use crate::files::Report;
@@ -26,7 +25,7 @@ pub fn report(path: &Path, image: Result<Image<'_>, Error>, is_json: bool) -> Re
     let found = image.and_then(|image| Ok((authenticode_of(&image)?, image.info().checksum, image.checksum()?.value)));
     let origin = Origin::of(path);
     match found {
-        Ok((digest, ..)) if !is_json => Report::of(format!("{digest}  {}\n", escaped(&origin.file)), Status::Done),
+        Ok((digest, ..)) if !is_json => Report::of(format!("{digest}  {}\n", origin.shown_file()), Status::Done),
         Ok((digest, own, right)) => {
             let sha256_hex = Some(digest);
             let said = Digest { origin, sha256_hex, checksum: Some(own), right_checksum: Some(right), error: None };

@@ -43,6 +43,8 @@ enum Failure {
     File,
     /// There is no such resource, as it was called.
     Missing(String),
+    /// A number that is no identifier, and no name that is there.
+    Number(String),
     /// What is read or written for all languages together is too much.
     Languages,
     /// A file is no icon.
@@ -107,6 +109,10 @@ fn deliver(
         Err(Failure::Missing(which)) => {
             Report::refused(paths.0, format_args!("the image has no such resource: {which}"))
         }
+        Err(Failure::Number(word)) => Report::refused(
+            paths.0,
+            format_args!("{word} is no identifier, which is at most 65535, nor a name that is there"),
+        ),
         Err(Failure::Languages) => Report::refused(paths.0, "more than 256 MiB for all languages together"),
         Err(Failure::Icon(path, error)) => Report::refused(&path, error),
     }
@@ -121,10 +127,20 @@ fn content_of(path: &Path) -> Result<Vec<u8>, Failure> {
 
 /// The number that a text is, in decimal or after 0x in hexadecimal digits.
 pub fn number_of(text: &str) -> Option<u16> {
-    match text.strip_prefix("0x") {
-        Some(digits) => u16::from_str_radix(digits, 16).ok(),
-        None => text.parse().ok(),
-    }
+    let (digits, radix) = digits_of(text)?;
+    u16::from_str_radix(digits, radix).ok()
+}
+
+/// The digits of a text that is nothing else, and their radix.
+fn digits_of(text: &str) -> Option<(&str, u32)> {
+    let (digits, radix) = text.strip_prefix("0x").map_or((text, 10), |digits| (digits, 16));
+    (!digits.is_empty() && digits.chars().all(|it| it.is_digit(radix))).then_some((digits, radix))
+}
+
+/// Whether a word has the form of an identifier, and is none.
+fn is_no_identifier(word: &str) -> bool {
+    let word = word.trim_start_matches('#');
+    digits_of(word).is_some() && number_of(word).is_none()
 }
 
 /// What a type or a name is called: a number, or a name, in upper case, as Windows looks names up, but for one that is there.
@@ -335,6 +351,11 @@ pub fn set_resource(paths: Paths<'_>, image: Result<Image<'_>, Error>, which: &O
     let report = deliver(paths, image, |_, editor| {
         let content = content_of(file)?;
         let (kind, name) = keys_of(editor, (&which.kind, &which.name));
+        let there = |it: &ResourceKey| editor.resources().any(|(place, _)| place.0 == *it || place.1 == *it);
+        let words = [(&which.kind, &kind), (&which.name, &name)];
+        if let Some((word, _)) = words.into_iter().find(|it| is_no_identifier(it.0) && !there(it.1)) {
+            return Err(Failure::Number(escaped(word)));
+        }
         wrong = wrong_manifest(&content).filter(|_| kind == ResourceKey::Id(MANIFEST));
         let languages = languages_of(editor, &kind, &name, which.language);
         set_in(editor, (&kind, &name), &languages, &content)

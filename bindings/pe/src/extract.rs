@@ -1,11 +1,13 @@
 //! Parts of an image whose bytes are written to a file: the manifest, certificates, resources, and icons and cursors as the
 //! files that other programs open.
 
+use crate::edit::number_of;
 use crate::facts::resources::LEAVES;
 use crate::facts::{counted, languages, overlay, sections, Refusal};
 use crate::files::{self, Report};
 use crate::names::{name_of, RESOURCE_TYPES};
 use crate::new_file::Target;
+use crate::streams::complaint;
 use crate::Status;
 use clap::{Args, ValueEnum};
 use pe_c::{Error, Image, ResourceLeaf, ResourceName};
@@ -36,7 +38,7 @@ pub enum ExtractedPart {
     Resources,
 }
 
-/// Which of several. Where more than one is left the first counts.
+/// Which of several. Where more than one is left the first counts, and it is said.
 #[derive(Args, Clone, Debug)]
 pub struct Which {
     /// The type of the resource: a number of winuser.h, as 10 of raw data, or its name, as show has it.
@@ -53,26 +55,26 @@ pub struct Which {
     number: Option<u32>,
 }
 
+impl Which {
+    const ANY: Which = Which { kind: None, name: None, language: None, number: None };
+}
+
 /// `WIN_CERT_TYPE_PKCS_SIGNED_DATA`
 const PKCS_SIGNED_DATA: u16 = 2;
-/// `RT_CURSOR`, `RT_ICON`; the groups have these and 11.
+/// `RT_CURSOR`, `RT_ICON`, whose groups have these and 11; and `RT_MANIFEST`.
 const CURSOR: u16 = 1;
 const ICON: u16 = 3;
 const GROUP: u16 = 11;
+const MANIFEST: u16 = 24;
 /// Bytes of the header of an icon file, of an entry of it, and of an entry of a group, which has an identifier in place of an
 /// offset. <https://devblogs.microsoft.com/oldnewthing/20120720-00/?p=7083>
 const HEADER: usize = 6;
+/// Where a header says how many entries there are.
+const COUNT: usize = 4;
 const ENTRY: usize = 16;
 const GROUP_ENTRY: usize = 14;
 /// A cursor's hot spot, which comes before its bits in a resource.
 const HOT_SPOT: usize = 4;
-
-fn number_of(text: &str) -> Option<u16> {
-    match text.strip_prefix("0x") {
-        Some(digits) => u16::from_str_radix(digits, 16).ok(),
-        None => text.parse().ok(),
-    }
-}
 
 fn is_named(name: ResourceName<'_>, wanted: &Option<String>) -> bool {
     let Some(wanted) = wanted else { return true };
@@ -113,6 +115,15 @@ fn leaves_of<'a>(image: &Image<'a>, which: &Which, kind: Option<u16>) -> Result<
     Ok(found)
 }
 
+/// What is said of a part beside its bytes.
+#[derive(Default)]
+struct Beside {
+    /// What of it is not in them.
+    left_out: Option<String>,
+    /// How many fit what is asked for, of which it is the first.
+    fitting: usize,
+}
+
 fn word_at(bytes: &[u8], at: usize) -> Option<u16> {
     Some(u16::from_le_bytes(bytes.get(at..at + 2)?.try_into().ok()?))
 }
@@ -139,11 +150,12 @@ fn file_of_group(
     left_out: &mut usize,
 ) -> Result<Option<Vec<u8>>, Error> {
     let content = group.content()?;
-    let any = Which { kind: None, name: None, language: None, number: None };
-    let parts = by_id(leaves_of(image, &any, Some(kind))?, group.language);
-    let mut images = Vec::new();
-    let mut left = image.bytes().len();
-    for entry in content.get(HEADER..).unwrap_or_default().chunks_exact(GROUP_ENTRY) {
+    let parts = by_id(leaves_of(image, &Which::ANY, Some(kind))?, group.language);
+    let (mut images, mut left) = (Vec::new(), image.bytes().len());
+    let count = usize::from(word_at(content, COUNT).unwrap_or_default());
+    let entries = content.get(HEADER..).unwrap_or_default().chunks_exact(GROUP_ENTRY).take(count);
+    *left_out += count - entries.len();
+    for entry in entries {
         let leaf = parts.get(&word_at(entry, GROUP_ENTRY - 2).unwrap_or_default());
         let bytes = leaf.map(ResourceLeaf::content).transpose()?;
         // Entries may share an image: the file has no more bytes than the executable.
@@ -216,36 +228,42 @@ impl ExtractedPart {
         self.to_possible_value().map_or(String::new(), |it| it.get_name().to_string())
     }
 
-    /// The bytes of a file, if the image has the part. What of it is not in them is said in `left_out`.
+    /// The options that say which of several is meant.
+    fn options(self) -> &'static str {
+        match self {
+            ExtractedPart::Manifest => "the part resource with --type manifest and --name writes another",
+            ExtractedPart::Certificate => "--number says which one is meant",
+            ExtractedPart::Section => "--name or --number says which one is meant",
+            ExtractedPart::Resource => "--type, --name and --language say which one is meant",
+            _ => "--name and --language say which one is meant",
+        }
+    }
+
+    /// The bytes of a file, if the image has the part.
     fn bytes_of<'a>(
         self,
         image: &Image<'a>,
         which: &Which,
-        left_out: &mut Option<String>,
+        beside: &mut Beside,
     ) -> Result<Option<Cow<'a, [u8]>>, Error> {
-        let kind = match self {
-            ExtractedPart::Manifest => return Ok(image.manifest()?.map(Cow::from)),
-            ExtractedPart::Certificate => return certificate_of(image, which.number),
-            ExtractedPart::Certificates => return certificates_of(image),
+        match self {
+            ExtractedPart::Manifest => {
+                beside.fitting = leaves_of(image, &Which::ANY, Some(MANIFEST)).map_or(0, |it| it.len());
+                Ok(image.manifest()?.map(Cow::from))
+            }
+            ExtractedPart::Certificate => certificate_of(image, which.number, beside),
+            ExtractedPart::Certificates => certificates_of(image),
             ExtractedPart::Resource => {
                 let leaves = leaves_of(image, which, None)?;
-                return leaves.first().map(|it| it.content().map(Cow::from)).transpose();
+                beside.fitting = leaves.len();
+                leaves.first().map(|it| it.content().map(Cow::from)).transpose()
             }
-            ExtractedPart::Overlay => return Ok(overlay_of(image, left_out).map(Cow::from)),
-            ExtractedPart::Section => return Ok(section_of(image, which, left_out).map(Cow::from)),
-            ExtractedPart::Icon => ICON,
-            ExtractedPart::Cursor | ExtractedPart::Resources => CURSOR,
-        };
-        match leaves_of(image, which, Some(kind + GROUP))?.first() {
-            Some(group) => {
-                let mut count = 0;
-                let file = file_of_group(image, group, kind, &mut count)?;
-                let images = counted(count, "image");
-                let why = || format!("{images} of the group left out: no resource of the image, or too many bytes");
-                *left_out = (count > 0).then(why);
-                Ok(file.map(Cow::from))
+            ExtractedPart::Overlay => Ok(overlay_of(image, &mut beside.left_out).map(Cow::from)),
+            ExtractedPart::Section => Ok(section_of(image, which, beside).map(Cow::from)),
+            ExtractedPart::Icon => Ok(images_of(image, which, ICON, beside)?.map(Cow::from)),
+            ExtractedPart::Cursor | ExtractedPart::Resources => {
+                Ok(images_of(image, which, CURSOR, beside)?.map(Cow::from))
             }
-            None => Ok(None),
         }
     }
 
@@ -254,11 +272,16 @@ impl ExtractedPart {
         if let (ExtractedPart::Resources, Ok(image)) = (self, &image) {
             return write_resources((path, image), which, to);
         }
-        let mut left_out = None;
-        let found = image.and_then(|image| self.bytes_of(&image, which, &mut left_out).map(|bytes| (bytes, image)));
+        let mut beside = Beside::default();
+        let found = image.and_then(|image| self.bytes_of(&image, which, &mut beside).map(|bytes| (bytes, image)));
+        let Beside { left_out, fitting } = beside;
         match found {
             Ok((Some(bytes), _)) => {
-                let written = files::deliver(&bytes, to, Status::Done);
+                let mut written = files::deliver(&bytes, to, Status::Done);
+                if fitting > 1 && written.status == Status::Done {
+                    let which = format_args!("the first of {fitting} that fit is written; {}", self.options());
+                    written.complaints += &complaint(path, which);
+                }
                 match left_out {
                     Some(why) => written.and(Report::refused(path, why)),
                     None => written,
@@ -268,7 +291,8 @@ impl ExtractedPart {
                 let part = self.name();
                 let is_open = self.is_of_resources() && has_more_leaves(&image);
                 let among = if is_open { format!(" among the first {LEAVES} resources") } else { String::new() };
-                Report::refused(path, format_args!("the image has no such part: {part}{among}"))
+                let why = left_out.map_or(String::new(), |it| format!(": {it}"));
+                Report::refused(path, format_args!("the image has no such part: {part}{among}{why}"))
             }
             Err(error) => Report::refused(path, Refusal::from(error)),
         }
@@ -279,6 +303,19 @@ impl ExtractedPart {
     }
 }
 
+/// The file of the first group of icons or cursors that is asked for.
+fn images_of(image: &Image<'_>, which: &Which, kind: u16, beside: &mut Beside) -> Result<Option<Vec<u8>>, Error> {
+    let groups = leaves_of(image, which, Some(kind + GROUP))?;
+    beside.fitting = groups.len();
+    let Some(group) = groups.first() else { return Ok(None) };
+    let mut count = 0;
+    let file = file_of_group(image, group, kind, &mut count)?;
+    let images = counted(count, "image");
+    let why = "after its end, no resource of the image, or too many bytes";
+    beside.left_out = (count > 0).then(|| format!("{images} of the group left out: {why}"));
+    Ok(file)
+}
+
 fn overlay_of<'a>(image: &Image<'a>, left_out: &mut Option<String>) -> Option<&'a [u8]> {
     let overlay = overlay::of(image)?;
     *left_out = overlay.after().map(|it| format!("{it} left out"));
@@ -287,16 +324,18 @@ fn overlay_of<'a>(image: &Image<'a>, left_out: &mut Option<String>) -> Option<&'
 }
 
 /// The first section with a name, or the one with a number, as far as it is in the file.
-fn section_of<'a>(image: &Image<'a>, which: &Which, left_out: &mut Option<String>) -> Option<&'a [u8]> {
+fn section_of<'a>(image: &Image<'a>, which: &Which, beside: &mut Beside) -> Option<&'a [u8]> {
     let names = sections::names_of(image);
     let is_it = |number: usize| match (&which.name, which.number) {
         (Some(name), _) => names.get(number).is_some_and(|it| it.0 == name.as_bytes()),
-        (None, wanted) => wanted.unwrap_or(1) as usize == number + 1,
+        (None, wanted) => wanted.is_none_or(|it| it as usize == number + 1),
     };
-    let (_, section) = image.sections().iter().enumerate().find(|it| is_it(it.0))?;
+    let mut fitting = image.sections().iter().enumerate().filter(|it| is_it(it.0)).map(|it| it.1);
+    let section = fitting.next()?;
+    beside.fitting = 1 + fitting.count();
     let (range, length) = (sections::range_of(image.layout(), section), image.bytes().len() as u64);
     let missing = range.end.saturating_sub(range.start.max(length));
-    *left_out = (missing > 0).then(|| format!("{missing} bytes left out: the file ends before the section does"));
+    beside.left_out = (missing > 0).then(|| format!("{missing} bytes left out: the file ends before the section does"));
     image.bytes().get(range.start.min(length) as usize..range.end.min(length) as usize)
 }
 
@@ -379,10 +418,18 @@ fn write_resources((path, image): (&Path, &Image<'_>), which: &Which, to: &Targe
 }
 
 /// The body of the certificate with a number, or of the first of type PKCS #7.
-fn certificate_of<'a>(image: &Image<'a>, number: Option<u32>) -> Result<Option<Cow<'a, [u8]>>, Error> {
-    for (index, certificate) in (1..).zip(image.certificates()) {
+fn certificate_of<'a>(
+    image: &Image<'a>,
+    number: Option<u32>,
+    beside: &mut Beside,
+) -> Result<Option<Cow<'a, [u8]>>, Error> {
+    let is_it = |index, kind| number.map_or(kind == PKCS_SIGNED_DATA, |it| it == index);
+    let certificates = || (1..).zip(image.certificates());
+    let fitting = certificates().filter(|it| it.1.as_ref().is_ok_and(|found| is_it(it.0, found.kind)));
+    beside.fitting = fitting.count();
+    for (index, certificate) in certificates() {
         let certificate = certificate?;
-        if number.map_or(certificate.kind == PKCS_SIGNED_DATA, |it| it == index) {
+        if is_it(index, certificate.kind) {
             return Ok(Some(certificate.body.into()));
         }
     }

@@ -33,6 +33,7 @@ pub mod symbols;
 pub mod tls;
 pub mod version;
 
+use crate::escape::Escaped;
 use crate::names::{name_of, MACHINES};
 use chrono::{TimeZone, Utc};
 use clap::ValueEnum;
@@ -169,17 +170,31 @@ pub struct Origin {
     pub json_version: u32,
     pub file: String,
     pub file_hex: Option<String>,
+    /// The bytes of the path, for text.
+    #[serde(skip)]
+    path: Vec<u8>,
 }
 
 impl Origin {
     pub fn of(path: &Path) -> Origin {
-        Origin { json_version: JSON_VERSION, file: path.to_string_lossy().into_owned(), file_hex: hex_of_path(path) }
+        let (file, file_hex) = (path.to_string_lossy().into_owned(), hex_of_path(path));
+        Origin { json_version: JSON_VERSION, file, file_hex, path: bytes_of_path(path).to_vec() }
     }
+
+    /// The path for people: bytes that are no text are escaped.
+    pub fn shown_file(&self) -> String {
+        Escaped(&self.path).to_string()
+    }
+}
+
+/// Under Windows those of WTF-8.
+pub fn bytes_of_path(path: &Path) -> &[u8] {
+    path.as_os_str().as_encoded_bytes()
 }
 
 /// The bytes of a path that is not UTF-8: under Windows those of WTF-8, which has half of a surrogate pair as three bytes.
 fn hex_of_path(path: &Path) -> Option<String> {
-    path.to_str().is_none().then(|| hex_of(path.as_os_str().as_encoded_bytes()))
+    path.to_str().is_none().then(|| hex_of(bytes_of_path(path)))
 }
 
 /// The name by which a symbol server would have an image in this file. Standard input has none.
@@ -614,6 +629,9 @@ pub struct Facts<'a> {
     pub file: String,
     /// The bytes of a path that is not UTF-8, by which it can be opened.
     pub file_hex: Option<String>,
+    /// Those of each path, for text.
+    #[serde(skip)]
+    pub path: Vec<u8>,
     pub file_size: usize,
     /// Why nothing is shown of the file.
     pub error: Option<Refusal>,
@@ -668,6 +686,7 @@ impl<'a> Facts<'a> {
             json_version: JSON_VERSION,
             file: path.to_string_lossy().into_owned(),
             file_hex: hex_of_path(path),
+            path: bytes_of_path(path).to_vec(),
             file_size,
             error: None,
             file_kind: None,
@@ -692,6 +711,11 @@ impl<'a> Facts<'a> {
             resources: None,
             symbols: None,
         }
+    }
+
+    /// The path for people: bytes that are no text are escaped.
+    pub fn shown_file(&self) -> String {
+        Escaped(&self.path).to_string()
     }
 
     /// Of a file that is no image.

@@ -116,6 +116,8 @@ struct Below<'a> {
 struct Skipped {
     count: Cell<usize>,
     shown: [Cell<usize>; OTHERS.len()],
+    /// How many of it are links to folders, which may have images below them.
+    links: Cell<usize>,
     is_verbose: bool,
     /// Whether links to folders are said where no count is in the end.
     says_links: bool,
@@ -123,15 +125,19 @@ struct Skipped {
 
 impl Skipped {
     fn new(is_verbose: bool) -> Skipped {
-        Skipped { count: Cell::new(0), shown: Default::default(), is_verbose, says_links: false }
+        Skipped { count: Cell::new(0), shown: Default::default(), links: Cell::new(0), is_verbose, says_links: false }
     }
 
     /// What is neither a file nor a folder of its own.
     fn put_irregular(&self, path: &Path, is_folder: bool) {
-        if is_folder && self.says_links {
-            complain(complaint(path, "a link to a folder, which is not followed"));
+        if !is_folder {
+            return self.put(path, "it is no regular file");
         }
-        self.put(path, "it is no regular file");
+        if self.says_links {
+            complain(complaint(path, LINK));
+        }
+        self.links.set(self.links.get() + 1);
+        self.put(path, &format!("it is {LINK}"));
     }
 
     fn put(&self, path: &Path, why: &str) {
@@ -155,10 +161,17 @@ impl Skipped {
         let kinds = OTHERS.iter().zip(&self.shown).filter(|it| it.1.get() > 0);
         let kinds: Vec<String> = kinds.map(|(kind, count)| counted(count.get(), kind.1)).collect();
         let shown = if kinds.is_empty() { String::new() } else { format!("; by their start {}", kinds.join(", ")) };
+        let links = match self.links.get() {
+            0 => String::new(),
+            1 => "; one is a link to a folder, which is not followed".to_string(),
+            count => format!("; {count} are links to folders, which are not followed"),
+        };
         let files = counted(self.count.get(), "file");
-        (self.count.get() > 0).then(|| format!("pe: {files} {what}, and skipped{shown}\n"))
+        (self.count.get() > 0).then(|| format!("pe: {files} {what}, and skipped{shown}{links}\n"))
     }
 }
+
+const LINK: &str = "a link to a folder, which is not followed";
 
 /// Whether a link leads nowhere, or in a circle.
 fn is_lost(error: &io::Error) -> bool {
@@ -303,7 +316,7 @@ fn said_of(found: &Found, report: &(impl Fn(&Path, &[u8]) -> Report + Sync)) -> 
 
 /// Writes what `report` says of each file, in their order. Returns the worst status.
 pub fn each(named: &Files, out: &mut dyn Write, report: impl Fn(&Path, &[u8]) -> Report + Sync) -> io::Result<Status> {
-    let (mut worst, mut has_head) = (Status::Done, false);
+    let (mut worst, mut has_head, mut is_any) = (Status::Done, false, false);
     let skipped = Skipped::new(named.walk.verbose);
     let mut files = found(named, &skipped).peekable();
     let bar = progress(named.walk.recursive);
@@ -314,6 +327,7 @@ pub fn each(named: &Files, out: &mut dyn Write, report: impl Fn(&Path, &[u8]) ->
         let reports: Vec<io::Result<Said>> =
             if let [one] = some.as_slice() { vec![of(one)] } else { some.par_iter().map(of).collect() };
         for (found, report) in some.iter().zip(reports) {
+            is_any |= !matches!(report, Ok(Err(_)));
             match report {
                 Ok(Ok(report)) => worst = worst.max(write(report, &mut has_head, out)?),
                 Ok(Err(kind)) => skipped.put_kind(&found.path, kind),
@@ -327,6 +341,9 @@ pub fn each(named: &Files, out: &mut dyn Write, report: impl Fn(&Path, &[u8]) ->
     }
     bar.end();
     skipped.text().into_iter().for_each(complain);
+    if !is_any {
+        complain("pe: no image is found\n");
+    }
     Ok(worst)
 }
 

@@ -1,6 +1,6 @@
 //! Who imports or exports a name.
 
-use crate::escape::escaped;
+use crate::escape::Escaped;
 use crate::facts::{Facts, Name, NotWhole, Part};
 use serde::Serialize;
 
@@ -22,6 +22,9 @@ pub struct Found<'a> {
     pub json_version: u32,
     pub file: &'a str,
     pub file_hex: Option<&'a str>,
+    /// The bytes of the path, for text.
+    #[serde(skip)]
+    path: &'a [u8],
     pub matches: Vec<Match<'a>>,
     /// What may have the word, and was not looked at.
     pub not_whole: Vec<NotWhole>,
@@ -69,7 +72,8 @@ pub fn matches_of<'a>(facts: &'a Facts<'a>, word: &str) -> Found<'a> {
         }));
     }
     let (file, file_hex) = (facts.file.as_str(), facts.file_hex.as_deref());
-    Found { json_version: facts.json_version, file, file_hex, matches, not_whole: facts.not_whole() }
+    let (json_version, path) = (facts.json_version, facts.path.as_slice());
+    Found { json_version, file, file_hex, path, matches, not_whole: facts.not_whole() }
 }
 
 impl Found<'_> {
@@ -80,7 +84,7 @@ impl Found<'_> {
             let dll = it.dll.map_or(String::new(), |dll| format!(" {dll}"));
             let name = it.name.map(|name| name.to_string()).or(it.ordinal.map(|it| format!("#{it}")));
             let name = name.map_or(String::new(), |name| format!(" {name}"));
-            format!("{}: {way}{dll}{name}\n", escaped(self.file))
+            format!("{}: {way}{dll}{name}\n", Escaped(self.path))
         };
         self.matches.iter().map(line).collect()
     }

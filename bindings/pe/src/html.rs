@@ -7,12 +7,13 @@ mod map;
 mod markup;
 mod overview;
 
-use crate::escape::escaped;
 use crate::facts::debug::Debug;
 use crate::facts::regions::{self, Region};
 use crate::facts::{count_of, Facts, Part, Refusal, Wanted};
 use crate::files;
 use crate::new_file::Target;
+use crate::show;
+use crate::streams::complain;
 use crate::summary::kind_of;
 use crate::tables::{self, Row, Table};
 use crate::Status;
@@ -44,7 +45,10 @@ pub fn write_to(
         Err(error) => Facts::refused(path, bytes, error.clone()),
     };
     let status = if facts.is_refused() { Status::Refused } else { Status::Done };
-    files::deliver_written(to, status, out, &mut |out| write_page(&facts, image.as_ref().ok(), out))
+    let written = files::deliver_written(to, status, out, &mut |out| write_page(&facts, image.as_ref().ok(), out))?;
+    // Who makes the page need not open it.
+    complain(show::complaints(&facts));
+    Ok(written)
 }
 
 fn write_page(facts: &Facts, image: Option<&Image<'_>>, out: &mut dyn Write) -> io::Result<()> {
@@ -58,7 +62,7 @@ fn write_page(facts: &Facts, image: Option<&Image<'_>>, out: &mut dyn Write) -> 
         (None, None) => html.text("refused: no image"),
     };
     html.markup(" · ").text(grouped(facts.file_size as u64)).markup(" bytes</p><p class=path>");
-    html.text(escaped(&facts.file)).markup("</p></header>");
+    html.text(facts.shown_file()).markup("</p></header>");
     overview::of(facts, &mut html);
     let version = facts.version.as_ref().and_then(|it| it.said_of_name());
     let notes: Vec<String> = facts.cut().into_iter().chain(version).collect();

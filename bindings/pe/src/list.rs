@@ -4,7 +4,7 @@
 
 use crate::csv::written;
 use crate::escape::{escaped, raw};
-use crate::facts::certificates::CertificateSigner;
+use crate::facts::certificates::Certificate;
 use crate::facts::debug::Pdb;
 use crate::facts::exports::Exports;
 use crate::facts::hashes::Hashes;
@@ -53,7 +53,7 @@ fn of_headers(headers: Option<&Headers>) -> Vec<Cell> {
     cells!(headers, it:
         "format" it.format.unwrap_or_default(), "machine" it.machine.number, "machine_name" it.machine.name.unwrap_or_default(),
         "subsystem" it.subsystem.number, "subsystem_name" it.subsystem.name.unwrap_or_default(), "is_dll" it.is_dll,
-        "time_date_stamp" it.stamp.seconds, "time" time(it), "is_reproducible" it.is_reproducible, "entry_rva" it.entry_rva,
+        "time_date_stamp" it.stamp.seconds, "time" time(it), "is_reproducible" it.is_reproducible.map_or(String::new(), |it| it.to_string()), "entry_rva" it.entry_rva,
         "image_base_va" it.image_base_va, "size_of_image" it.size_of_image, "size_of_headers" it.size_of_headers,
         "checksum" it.checksum, "right_checksum" it.right_checksum.map_or(String::new(), |it| it.to_string()),
         "characteristics" it.characteristics.number, "dll_characteristics" it.dll_characteristics.number,
@@ -70,11 +70,14 @@ fn of_hashes(hashes: Option<&Hashes>) -> Vec<Cell> {
     )
 }
 
-fn of_signer(signer: Option<&CertificateSigner>) -> Vec<Cell> {
-    cells!(signer, it:
+/// The first signer, and the first refusal of one.
+fn of_signers(certificates: &[Certificate]) -> Vec<Cell> {
+    let cells = cells!(certificates.iter().find_map(|it| it.signer.as_ref()), it:
         "signer" it.subject.clone().unwrap_or_default(), "signer_issuer" it.issuer.clone(),
         "signer_serial_hex" it.serial_hex.clone(), "time_stamp" it.time_stamp.clone().unwrap_or_default(),
-    )
+    );
+    let refused = certificates.iter().find_map(|it| it.signer_error.as_ref());
+    cells.into_iter().chain([("signer_error", refused.map(|it| it.to_string()))]).collect()
 }
 
 fn of_version(version: Option<&Version>) -> Vec<Cell> {
@@ -113,10 +116,9 @@ fn counts_of(facts: &Facts) -> Vec<Cell> {
 
 /// The columns of an image in their order, with its cells.
 fn row_of(facts: &Facts) -> Vec<Cell> {
-    let signers = facts.certificates.iter().flat_map(|it| it.entries()).filter_map(|it| it.signer.as_ref());
     let refused = facts.refusals();
     let first = refused.first().map(|(part, refusal)| format!("{part}: {refusal}{}", facts.said_of_kind()));
-    let own = vec![cell("file", &facts.file), cell("file_size", facts.file_size), ("error", first)];
+    let own = vec![cell("file", facts.shown_file()), cell("file_size", facts.file_size), ("error", first)];
     let limited: Vec<String> = facts.limited().into_iter().map(String::from).chain(facts.cut()).collect();
     let limited = Some(limited.join("; ")).filter(|it| !it.is_empty());
     [
@@ -124,7 +126,7 @@ fn row_of(facts: &Facts) -> Vec<Cell> {
         of_headers(facts.headers.as_ref()),
         of_hashes(facts.hashes.as_ref()),
         counts_of(facts),
-        of_signer(signers.into_iter().next()),
+        of_signers(facts.certificates.as_ref().map_or(&[], |it| it.entries())),
         of_version(facts.version.as_ref()),
         of_pdb(facts.debug.as_ref().and_then(|it| it.pdb.present())),
         vec![("limited", limited)],

@@ -202,13 +202,19 @@ fn verify_images(command: &Command, out: &mut dyn Write) -> io::Result<Status> {
     let Some(given) = given_to_verify(roots, crls, catalogs) else {
         return Ok(Status::FileError);
     };
-    let reading = strict.reading();
-    files::each(files, out, |path, bytes| {
-        of_image((path, bytes), &reading, |image| {
+    let (reading, is_any, is_cut) = (strict.reading(), AtomicBool::new(false), AtomicBool::new(false));
+    let worst = files::each(files, out, |path, bytes| {
+        let made = of_image((path, bytes), &reading, |image| {
             let image = image.map_err(|error| refusal_with_kind(error, bytes, &reading));
             verify::report(path, image, &given, output.json)
-        })
-    })
+        });
+        is_any.fetch_or(made.is_image, Ordering::Relaxed);
+        is_cut.fetch_or(!made.is_image && bytes.starts_with(b"MZ"), Ordering::Relaxed);
+        made
+    })?;
+    // Where no image is below the folders, or one that is truncated is skipped, not all signatures were found to be good.
+    let is_whole = is_any.load(Ordering::Relaxed) && !is_cut.load(Ordering::Relaxed);
+    Ok(if is_whole { worst } else { worst.max(Status::Refused) })
 }
 
 /// `pe key`: the paths on a symbol server.
@@ -380,7 +386,14 @@ fn edit_file(command: &Command, out: &mut dyn Write) -> io::Result<Status> {
     if matches!(command, Command::SetVersion { version, .. } if version.is_empty()) {
         misused("nothing is new: --file-version, --product-version and --string say what");
     }
-    if matches!(command, Command::RemoveResource { which, .. } if which.words.len() % 2 != 0) {
+    if let Command::SetVersion { version, .. } = command {
+        if let Some(name) = version.repeated() {
+            misused(&format!("--string has {} twice", escape::escaped(name)));
+        }
+    }
+    if matches!(command, Command::RemoveResource { which, .. } if which.words.len() % 2 != 0)
+        || matches!(command, Command::SetResource { which, .. } if which.kind.is_empty() || which.name.is_empty())
+    {
         misused("a resource has a type and a name");
     }
     each_image(&Files::one(file), &strict.reading(), out, |path, image| match command {
@@ -438,7 +451,8 @@ fn show_csv(
     let wanted = Wanted::parts(topics, how.has_hashes).with_others();
     let text = |facts: &Facts, _| {
         let csv::Lines { head, rows } = csv::lines(facts, (*topic, table), files.is_several());
-        Said { head, ..Said::apart(rows, facts) }
+        let said = Said::apart(rows, facts);
+        Said { head, complaints: said.complaints + &show::complaint_of_unread(facts, *topic), ..said }
     };
     files::each(files, out, |path, bytes| shown(path, bytes, how.reading, &wanted, text))
 }
@@ -526,11 +540,18 @@ fn shown(
     text: impl Fn(&Facts, Style) -> Said,
 ) -> Report {
     let image = parsed(bytes, reading);
-    let other = if image.is_err() && wanted.has_others && !reading.mapped { Other::parse(bytes) } else { None };
+    let may_be_other = image.is_err() && wanted.has_others && !reading.mapped;
+    let other = if may_be_other { Other::parse(bytes) } else { None };
     let (facts, is_image) = match (&image, &other) {
         (Ok(image), _) => (Facts::of(path, image, wanted), true),
         (Err(_), Some(other)) => (Facts::of_other(path, other, wanted), false),
-        (Err(error), None) => (Facts::refused(path, bytes, refusal_of(*error, bytes, reading)), !is_no_image(*error)),
+        (Err(error), None) => {
+            let mut refusal = refusal_of(*error, bytes, reading);
+            if let Some(why) = Other::refused(bytes).filter(|_| may_be_other) {
+                refusal.said = Some(format!("{}; {why}", refusal.said.as_ref().unwrap_or(&refusal.text)));
+            }
+            (Facts::refused(path, bytes, refusal), !is_no_image(*error))
+        }
     };
     let status = if facts.is_refused() { Status::Refused } else { Status::Done };
     let Said { head, text, complaints } = text(&facts, Style::of_stdout());

@@ -28,11 +28,11 @@ fn spelling(arg: &Arg) -> String {
     let short = arg.get_short().map(|it| format!("\\fB\\-{it}\\fR"));
     let long = arg.get_long().map(|it| format!("\\fB\\-\\-{}\\fR", plain(it)));
     let names: Vec<String> = short.into_iter().chain(long).collect();
-    if !names.is_empty() {
-        return names.join(", ");
-    }
-    let values = arg.get_value_names().unwrap_or_default().iter().map(|it| format!("\\fI{}\\fR", plain(it)));
-    values.collect::<Vec<_>>().join(" ")
+    // A flag has no value, though a name of one.
+    let values = arg.get_value_names().filter(|_| arg.get_action().takes_values()).unwrap_or_default();
+    let values = values.iter().map(|it| format!("\\fI{}\\fR", plain(it)));
+    let named = (!names.is_empty()).then(|| names.join(", "));
+    named.into_iter().chain(values).collect::<Vec<_>>().join(" ")
 }
 
 /// An argument, what it is for, and the values that it may have.
@@ -40,8 +40,8 @@ fn argument(arg: &Arg) -> String {
     let help = arg.get_help().map(sentence).unwrap_or_default();
     let values = arg.get_possible_values();
     // A flag has the values true and false.
-    let is_flag = arg.get_short().is_some() || arg.get_long().is_some();
-    let names: Vec<&str> = values.iter().filter(|_| !is_flag).map(|it| it.get_name()).collect();
+    let takes_values = arg.get_action().takes_values();
+    let names: Vec<&str> = values.iter().filter(|_| takes_values).map(|it| it.get_name()).collect();
     let one_of = if names.is_empty() { String::new() } else { format!("\nOne of {}.", plain(names.join(", "))) };
     format!(".TP\n{}\n{}\n", spelling(arg), (help + &one_of).trim())
 }

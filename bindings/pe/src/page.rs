@@ -105,8 +105,11 @@ impl Page {
 
     /// A line of a summary: what it is about, and what it says. A longer text goes on in lines below it.
     pub fn row(&mut self, label: &str, value: impl Display) {
-        let label = self.style.between("36", &format!("{label:LABEL$}"));
         let value = value.to_string();
+        if self.room() < ROOM {
+            return self.narrow_row("36", label, &value);
+        }
+        let label = self.style.between("36", &format!("{label:LABEL$}"));
         for (index, line) in wrapped(&value, self.room()).iter().enumerate() {
             if index == 0 {
                 self.line(format_args!("  {label}{line}"));
@@ -116,9 +119,23 @@ impl Page {
         }
     }
 
+    /// The same where a word has no room beside the label: what it says stands below that.
+    fn narrow_row(&mut self, colour: &str, label: &str, value: &str) {
+        if !label.is_empty() {
+            let label = self.style.between(colour, label);
+            self.line(format_args!("  {label}"));
+        }
+        for line in wrapped(value, self.style.width.max(NARROWEST) - INDENT) {
+            self.line(format_args!("{:INDENT$}{line}", ""));
+        }
+    }
+
     /// A line that warns.
     pub fn warning(&mut self, text: impl Display) {
         let text = text.to_string();
+        if self.room() < ROOM {
+            return self.narrow_row("33", "warning", &text);
+        }
         for (index, line) in wrapped(&text, self.room()).iter().enumerate() {
             let label = if index == 0 { "warning" } else { "" };
             let line = self.style.between("33", &format!("{label:LABEL$}{line}"));

@@ -33,7 +33,7 @@ pub fn time_of(seconds: u32) -> String {
 pub fn text(facts: &Facts, style: Style, named: &[Topic]) -> String {
     let mut page = Page::new(style);
     let kind = facts.file_kind.map_or(String::new(), |kind| format!(": {kind}"));
-    page.heading(&(escaped(&facts.file) + &kind));
+    page.heading(&(facts.shown_file() + &kind));
     if let Some(headers) = &facts.headers {
         headers_of(headers, &mut page);
     }
@@ -264,12 +264,18 @@ fn symbols_of(symbols: &List<Symbol>, page: &mut Page) {
 pub fn complaints_of_hardening(facts: &Facts) -> String {
     let are_there = facts.load_config.is_some() && facts.debug.is_some() && facts.certificates.is_some();
     let said = facts.hardening.iter().filter(|_| !are_there).flat_map(|it| it.said_of_unknown());
-    said.map(|it| format!("pe: {}: {it}\n", escaped(&facts.file))).collect()
+    said.map(|it| format!("pe: {}: {it}\n", facts.shown_file())).collect()
+}
+
+/// Says that a part is not read of a TE image or an object, of which there is no table then, as a line for standard error.
+pub fn complaint_of_unread(facts: &Facts, topic: Topic) -> String {
+    let kind = facts.file_kind.filter(|_| facts.is_not_read(topic));
+    kind.map_or(String::new(), |kind| format!("pe: {}: {}: not read of {kind}\n", facts.shown_file(), topic.name()))
 }
 
 /// What is refused, and of which parts the image has more than is looked at, as lines for standard error.
 pub fn complaints(facts: &Facts) -> String {
-    let file = escaped(&facts.file);
+    let file = facts.shown_file();
     let kind = facts.said_of_kind();
     let refused = facts.refusals().into_iter().map(|(part, refusal)| format!("pe: {file}: {part}: {refusal}{kind}\n"));
     let limited =
@@ -284,7 +290,7 @@ pub fn complaints(facts: &Facts) -> String {
 pub fn keys(facts: &Facts, style: Style) -> String {
     let (Some(headers), Some(debug)) = (&facts.headers, &facts.debug) else { return String::new() };
     let mut page = Page::new(style.whole());
-    page.heading(&escaped(&facts.file));
+    page.heading(&facts.shown_file());
     let pdb = match &debug.pdb {
         Part::Present(pdb) => {
             pdb.symbol_server_path.as_deref().map_or("none, its name is that of no file".into(), escaped)

@@ -1,13 +1,12 @@
 //! Images with a certificate, without certificates, or with another checksum, as new files. What is written is the library's.
 
-use crate::escape::escaped;
 use crate::facts::headers::checksum_state;
 use crate::facts::{Origin, Refusal};
 use crate::files::{self, Report};
 use crate::new_file::Target;
 use crate::streams::complaint;
 use crate::Status;
-use pe_c::{Error, Image, Placement, Signature};
+use pe_c::{Error, Image, Mode, Placement};
 use serde::Serialize;
 use std::borrow::Cow;
 use std::path::Path;
@@ -41,10 +40,14 @@ fn deliver(made: Result<Vec<u8>, Error>, of: &Path, to: &Target) -> Report {
 /// What starts a file of PEM.
 const PEM: &[u8] = b"-----BEGIN ";
 
-/// What is wrong with what gets a header as signed data, as far as it is read.
-fn wrong_data(given: &[u8]) -> Option<String> {
-    let error = Signature::parse(given).err().filter(|_| matches!(entry_of(given), Cow::Owned(_)))?;
-    Some(format!("it is attached, and is no PKCS #7 signed data: {error}"))
+/// What is wrong with signatures among the certificates of a file after so many, as far as they are read. An error is that of an entry
+/// that is none.
+fn wrong_data(file: &[u8], before: usize) -> Result<Option<String>, Error> {
+    let mut wrong = None;
+    for certificate in Image::parse(file, Mode::Permissive)?.certificates().skip(before) {
+        wrong = wrong.or(certificate?.signature().err());
+    }
+    Ok(wrong.map(|error| format!("it is attached, and is no PKCS #7 signed data: {error}")))
 }
 
 pub fn attach(
@@ -61,18 +64,23 @@ pub fn attach(
     if given.starts_with(PEM) {
         return Report::refused(certificate, "it is PEM, and not DER, which `openssl pkcs7 -outform DER` makes of it");
     }
-    match image.map(|it| (it.attach(&entry_of(&given), placement), has_its_certificates(&it))) {
+    let image = match image {
+        Ok(image) => image,
+        Err(error) => return Report::refused(path, Refusal::from(error)),
+    };
+    let (has_own, count) = (has_its_certificates(&image), image.certificates().count());
+    let before = if placement == Placement::After { count } else { 0 };
+    let made = image.attach(&entry_of(&given), placement);
+    match made.and_then(|file| wrong_data(&file, before).map(|wrong| (file, wrong))) {
         // What is refused of a certificate is that of the image itself, or the one that is given.
-        Ok((Err(error), true)) if is_of_certificate(error, &given) => {
-            Report::refused(certificate, Refusal::from(error))
-        }
-        Ok((made, _)) => {
-            let made = deliver(made, path, to);
-            let wrong = wrong_data(&given).filter(|_| made.status == Status::Done);
+        Err(error) if has_own && is_of_certificate(error, &given) => Report::refused(certificate, Refusal::from(error)),
+        Err(error) => Report::refused(path, Refusal::from(error)),
+        Ok((file, wrong)) => {
+            let made = deliver(Ok(file), path, to);
+            let wrong = wrong.filter(|_| made.status == Status::Done);
             let said = wrong.map_or(String::new(), |it| complaint(certificate, it));
             Report { complaints: made.complaints + &said, ..made }
         }
-        Err(error) => Report::refused(path, Refusal::from(error)),
     }
 }
 
@@ -90,7 +98,10 @@ pub fn detach(path: &Path, image: Result<Image<'_>, Error>, to: &Target) -> Repo
     let has_none = image.as_ref().is_ok_and(|it| it.certificates().next().is_none());
     let made = deliver(image.and_then(|it| it.detach()), path, to);
     match has_none && made.status == Status::Done {
-        true => Report { complaints: complaint(path, "it has no certificates: nothing is detached"), ..made },
+        true => Report {
+            complaints: complaint(path, "it has no certificates: nothing is detached, and the checksum is set"),
+            ..made
+        },
         false => made,
     }
 }
@@ -136,7 +147,7 @@ pub fn checksum(path: &Path, image: Result<Image<'_>, Error>, is_json: bool) -> 
                 "right" => format!("{own:#010x}, right"),
                 _ => format!("{own:#010x}, wrong: {right:#010x} is right"),
             };
-            Report::of(format!("{}: {state}\n", escaped(&origin.file)), Status::Done)
+            Report::of(format!("{}: {state}\n", origin.shown_file()), Status::Done)
         }
         Err(error) if is_json => {
             let error = Some(error.into());

@@ -83,7 +83,7 @@ pub fn write(path: &Path, bytes: &[u8], places: &Places, asked: Asked, out: &mut
 
 /// Whether the thread that is asked for is not there, which is said.
 pub fn lacks_thread(told: &Told, path: &Path, asked: Asked) -> bool {
-    let is_none = told.threads.present().is_some_and(|it| it.entries.is_empty());
+    let is_none = told.threads.refusal().is_none() && told.threads.entries().is_empty() && told.error.is_none();
     let lacking = asked.thread.filter(|_| is_none);
     lacking.iter().for_each(|it| complain(complaint(path, format_args!("no thread has the number {it}"))));
     lacking.is_some()

@@ -1,5 +1,7 @@
 //! Standard output and standard error. Either may be full or closed: then the status is that of an error of a file.
 
+use crate::escape::Escaped;
+use crate::facts::bytes_of_path;
 use crate::system;
 use crate::Status;
 use std::fmt::Display;
@@ -31,7 +33,7 @@ pub fn fail() {
 
 /// The line that says why a file is refused.
 pub fn complaint(path: &Path, why: impl Display) -> String {
-    format!("pe: {}: {why}\n", crate::escape::escaped(&path.to_string_lossy()))
+    format!("pe: {}: {why}\n", Escaped(bytes_of_path(path)))
 }
 
 /// Standard output, where each write fails if it was closed when the program started.

@@ -39,7 +39,7 @@ pub fn text(facts: &Facts, style: Style) -> String {
 }
 
 fn heading_of(facts: &Facts) -> String {
-    let file = escaped(&facts.file);
+    let file = facts.shown_file();
     match (&facts.headers, &facts.other_headers) {
         (Some(headers), _) => format!("{file}: {}", kind_of(headers)),
         (None, Some(headers)) => format!("{file}: {}", other_kind_of(headers)),
@@ -131,9 +131,10 @@ fn hashes_of(facts: &Facts, page: &mut Page) {
 /// When the image was built. The time stamp of a reproducible build is none.
 pub fn built(headers: &Headers) -> String {
     match (headers.is_reproducible, headers.stamp.seconds) {
-        (true, 0) => "reproducibly".to_string(),
-        (true, stamp) => format!("reproducibly, time stamp {stamp:#010x} is a hash"),
-        (false, stamp) => stamped(stamp),
+        (Some(true), 0) => "reproducibly".to_string(),
+        (Some(true), stamp) => format!("reproducibly, time stamp {stamp:#010x} is a hash"),
+        (None, stamp) if stamp != 0 => format!("{}, if that is no hash: the debug data are refused", stamped(stamp)),
+        (_, stamp) => stamped(stamp),
     }
 }
 
@@ -223,8 +224,8 @@ fn tables_of(facts: &Facts, page: &mut Page) {
     }
     more_of(facts, page);
     for certificate in facts.certificates.iter().filter_map(Part::present).flat_map(|it| &it.entries) {
-        let signer =
-            certificate.signer.as_ref().map_or(String::new(), |it| format!(", by {}", escaped(&it.to_string())));
+        let by = if certificate.signer.is_some() { "by " } else { "" };
+        let signer = certificate.said_of_signer().map_or(String::new(), |it| format!(", {by}{it}"));
         let (kind, size) = (&certificate.r#type, certificate.size);
         page.row("certificate", format_args!("{kind}, {size} bytes{signer}, not verified"));
     }
@@ -268,7 +269,9 @@ fn more_of(facts: &Facts, page: &mut Page) {
     }
     if let Some(resources) = facts.resources.as_ref().and_then(Part::present) {
         let count = count_of(resources.entries.len(), resources.is_limited);
-        page.row("resources", format_args!("{count}, of {}", counted(resources.type_count(), "type")));
+        let lost = resources.entries.iter().filter(|it| it.error.is_some()).count();
+        let lost = if lost > 0 { format!("; {lost} whose content is not in the file") } else { String::new() };
+        page.row("resources", format_args!("{count}, of {}{lost}", counted(resources.type_count(), "type")));
     }
 }
 

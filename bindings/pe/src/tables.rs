@@ -22,7 +22,7 @@ use crate::facts::sections::Section;
 use crate::facts::symbols::Symbol;
 use crate::facts::tls::Tls;
 use crate::facts::version::Version;
-use crate::facts::{counted, delay_imports, others, Flags, List, Name, Part};
+use crate::facts::{counted, delay_imports, others, Flags, List, Name, Part, Stamp};
 use crate::show::time_of;
 use crate::summary::{built, checksum_of, stamped};
 
@@ -359,7 +359,7 @@ pub fn pogo_parts(pogo: &Pogo) -> Table {
 pub fn certificates(certificates: &List<Certificate>) -> Table {
     let rows = certificates.entries.iter();
     let rows = rows.map(|it| {
-        let signer = it.signer.as_ref().map_or(String::new(), |it| escaped(&it.to_string()));
+        let signer = it.said_of_signer().unwrap_or_default();
         let stamp = it.signer.as_ref().and_then(|it| it.time_stamp.clone()).unwrap_or_default();
         vec![it.r#type.to_string(), format!("{:#06x}", it.revision), it.size.to_string(), signer, stamp]
     });
@@ -411,10 +411,11 @@ pub fn delay_imports(libraries: &List<delay_imports::Library>) -> Table {
 
 /// The DLLs that the image is bound to, each with those that it forwards to.
 pub fn bound_imports(bound: &List<Bound>) -> Table {
+    let time = |stamp: Stamp| if stamp.seconds == 0 { String::new() } else { time_of(stamp.seconds) };
     let rows = bound.entries.iter().flat_map(|it| {
-        let of_dll = vec![it.name.to_string(), time_of(it.stamp.seconds), String::new()];
+        let of_dll = vec![it.name.to_string(), time(it.stamp), String::new()];
         let forwarders = it.forwarders.entries().iter();
-        let forwarders = forwarders.map(|to| vec![to.name.to_string(), time_of(to.stamp.seconds), it.name.to_string()]);
+        let forwarders = forwarders.map(|to| vec![to.name.to_string(), time(to.stamp), it.name.to_string()]);
         [of_dll].into_iter().chain(forwarders)
     });
     Table::new(&[text("DLL"), text("time stamp"), text("forwarded to by")], rows)
@@ -551,7 +552,7 @@ pub fn rich_tools(rich: &Rich) -> Table {
 /// A name of a type, a resource or a language, or its identifier.
 fn label(label: &Label) -> String {
     let id = label.id.map(|id| format!("#{id}"));
-    label.name.as_deref().map(crate::escape::escaped).or(id).unwrap_or_default()
+    label.name.as_deref().map(escaped).or(id).unwrap_or_default()
 }
 
 /// The version of a leaf, or why its content is missing.
@@ -580,16 +581,14 @@ pub fn versions(version: &Version) -> Vec<Row> {
         ("product", fixed.map(|it| it.product_version.clone())),
         ("rights", version.manifest.present().and_then(|it| it.requested_level.clone())),
     ];
-    rows.into_iter().filter_map(|(label, value)| Some((label, crate::escape::escaped(&value?)))).collect()
+    rows.into_iter().filter_map(|(label, value)| Some((label, escaped(&value?)))).collect()
 }
 
 pub fn version_strings(version: &Version) -> Table {
     let tables = version.languages.entries().iter();
     let rows = tables.flat_map(|table| {
         let strings = table.strings.iter();
-        strings.map(|(name, text)| {
-            vec![label(&table.language), crate::escape::escaped(name), crate::escape::escaped(text)]
-        })
+        strings.map(|(name, text)| vec![label(&table.language), escaped(name), escaped(text)])
     });
     let is_limited = version.languages.present().is_some_and(|it| it.is_limited);
     Table::new(&[text("language"), text("name"), text("text")], rows).limited(is_limited)

@@ -4,7 +4,6 @@
 
 mod arm64;
 
-use crate::escape::escaped;
 use crate::facts::{Budget, List, Origin, Refusal, ENTRY};
 use crate::files::Report;
 use crate::page::Style;
@@ -271,7 +270,7 @@ pub fn report(path: &Path, image: Result<Image<'_>, Error>, asked: Asked) -> Rep
         answer = Answer { error: Some(error.into()), ..Answer::of(path, asked.rva) };
     }
     let status = if answer.is_refused() { Status::Refused } else { Status::Done };
-    let named = if asked.is_named { format!("{}\n", escaped(&answer.origin.file)) } else { String::new() };
+    let named = if asked.is_named { format!("{}\n", answer.origin.shown_file()) } else { String::new() };
     match &answer.error {
         _ if asked.is_json => Report::of(crate::json(&answer), status),
         Some(refusal) => Report::refused(path, refusal),

@@ -103,11 +103,13 @@ fn older_debug_records() {
 
 #[test]
 fn certificates_functions_and_versions() {
+    let text = "element of a signature truncated before its content";
+    let refused = json!({"number": 501, "name": "SIGNATURE_TRUNCATED", "text": text});
     assert_eq!(
         json_of("certificates", &made::with_certificates())["certificates"],
         json!([
-            {"size": 9, "revision": 0x200, "type": {"number": 2, "name": "PKCS #7 signed data"}, "signer": null},
-            {"size": 8, "revision": 0x100, "type": {"number": 1, "name": "X.509"}, "signer": null},
+            {"size": 9, "revision": 0x200, "type": {"number": 2, "name": "PKCS #7 signed data"}, "signer": null, "signer_error": refused},
+            {"size": 8, "revision": 0x100, "type": {"number": 1, "name": "X.509"}, "signer": null, "signer_error": null},
         ])
     );
     let arm64 = json_of("arm64", &made::with_arm64_functions());
@@ -271,7 +273,7 @@ fn damaged_parts_are_warnings_and_cost_themselves() {
 /// The directory of the imports at an RVA that no section maps. JSON has the text of the error alone.
 #[test]
 fn a_directory_that_is_refused_is_a_warning_with_its_numbers() {
-    let folder = Folder::new("refused");
+    let folder = Folder::new("refused-directory");
     let mut bytes = made::with_refused_import();
     bytes[0xC8 + 8..][..4].copy_from_slice(&0x0765_4321_u32.to_le_bytes());
     let file = folder.file("a.exe", &bytes);
@@ -280,6 +282,32 @@ fn a_directory_that_is_refused_is_a_warning_with_its_numbers() {
     assert!(out.ends_with(" (UNMAPPED)\n") && status == 1, "{out}");
     let all: Value = serde_json::from_str(&run(&["--json", &file]).0).unwrap();
     assert_eq!(all["imports_error"], json!({"number": 11, "name": "UNMAPPED", "text": "RVA maps to no file offset"}));
+}
+
+/// Whether a time stamp is a hash stands in the debug data.
+#[test]
+fn where_debug_data_are_refused_a_time_stamp_may_be_a_hash() {
+    let folder = Folder::new("perhaps");
+    let mut bytes = made::with_debug();
+    bytes[0x48..0x4C].copy_from_slice(&0x5E00_0000_u32.to_le_bytes());
+    let words = |bytes: &[u8]| {
+        let file = folder.file("a.exe", bytes);
+        let said: Value = serde_json::from_str(&run(&["--json", &file]).0).unwrap();
+        let headers = &said["headers"];
+        let list = run(&["list", "--no-hashes", &file]).0;
+        let mut list = csv::Reader::from_reader(list.as_bytes());
+        let column = list.headers().unwrap().iter().position(|it| it == "is_reproducible").unwrap();
+        let cell = list.records().next().unwrap().unwrap()[column].to_string();
+        (run(&["show", &file, "headers"]).0, headers["is_reproducible"].clone(), headers["time"].clone(), cell)
+    };
+    let (text, is_reproducible, time, cell) = words(&bytes);
+    assert_eq!((is_reproducible, time, cell.as_str()), (json!(true), json!(null), "true"));
+    assert!(text.contains("time stamp 0x5e000000 is a hash\n"), "{text}");
+    // The directory is nowhere.
+    bytes[0xC8 + 8 * (made::DEBUG - made::EXPORTS)..][..4].copy_from_slice(&0x0765_4321_u32.to_le_bytes());
+    let (text, is_reproducible, time, cell) = words(&bytes);
+    assert_eq!((is_reproducible, time, cell.as_str()), (json!(null), json!("2019-12-22T23:45:04Z"), ""));
+    assert!(text.contains(" by its time stamp, if that is no hash: the debug data are refused\n"), "{text}");
 }
 
 /// Placeholder DLLs of Wine have a block of zeros there.
@@ -539,7 +567,7 @@ fn names_and_lists_that_entries_share_are_shown_up_to_a_bound() {
 /// Without a bound these take minutes.
 #[test]
 fn lists_that_are_refused_after_a_long_name_are_shown_up_to_a_bound() {
-    let folder = Folder::new("refused");
+    let folder = Folder::new("refused-lists");
     type Make = fn(usize, usize) -> Vec<u8>;
     let parts: [(_, _, Make); 3] = [
         ("imports", "functions_error", limited::refused_imports),
@@ -646,6 +674,11 @@ fn the_man_page_has_each_command() {
         assert!(page.contains(&format!(".SS \"pe {}", command.replace('-', "\\-"))), "{command}");
     }
     assert!(page.contains(".TP\n\\fB\\-r\\fR, \\fB\\-\\-recursive\\fR\nTake each FILE"));
+    // The value of an option has its name, and the parts are named.
+    assert!(
+        page.contains("\n\\fB\\-\\-parts\\fR \\fIPART,..\\fR\n") && page.contains("\n\\fB\\-\\-fix\\fR \\fIOUT\\fR\n")
+    );
+    assert!(page.contains("\nOne of headers, hardening, hashes, sections, imports, exports, debug, "));
     let folder = Folder::new("man");
     let file = folder.file("pe.1", page.as_bytes());
     match Command::new("groff").args(["-man", "-Tutf8", "-ww", &file]).output() {

@@ -258,7 +258,7 @@ fn certificates_are_attached_and_detached() {
     assert_eq!(said["headers"]["checksum_state"], "right");
     // Of an image without certificates nothing goes, which is said.
     let same = path("same.exe");
-    let said = format!("pe: {bare}: it has no certificates: nothing is detached\n");
+    let said = format!("pe: {bare}: it has no certificates: nothing is detached, and the checksum is set\n");
     assert_eq!(run(&["detach", &bare, &same]), (String::new(), said, 0));
     assert_eq!(fs::read(&same).unwrap(), bytes);
     // Signed data get a header of eight bytes.
@@ -271,9 +271,28 @@ fn certificates_are_attached_and_detached() {
     assert_eq!((out.as_str(), error.contains("pem: it is PEM, and not DER"), status), ("", true, 1), "{error}");
     let short = folder.file("short.txt", b"short");
     assert_eq!(run(&["attach", &bare, &short, "-"]).1, format!("pe: {short}: truncated (SHORT)\n"));
+    // What has no entry is refused, and an entry without signed data is warned of.
+    for (given, why) in [
+        (&[0; 100][..], "invalid certificate revision (CERTIFICATE_REVISION)"),
+        (&[8, 0, 0, 0, 0, 2, 2, 0, 8, 0, 0, 0, 0, 0, 0, 0], "invalid certificate revision (CERTIFICATE_REVISION)"),
+    ] {
+        let given = folder.file("zeros", given);
+        let refused = path("refused.exe");
+        assert_eq!(run(&["attach", &bare, &given, &refused]), (String::new(), format!("pe: {given}: {why}\n"), 1));
+        assert!(!folder.0.join("refused.exe").exists());
+    }
+    let bare_entry = folder.file("entry", &[8, 0, 0, 0, 0, 2, 2, 0]);
+    let (_, error, status) = run(&["attach", &bare, &bare_entry, &path("entry.exe")]);
+    let why = format!("pe: {bare_entry}: it is attached, and is no PKCS #7 signed data: ");
+    assert_eq!((error.starts_with(&why), status), (true, 0), "{error}");
     let said = json_of("attached", &fs::read(&signed).unwrap());
     let pkcs7 = json!({"number": 2, "name": "PKCS #7 signed data"});
-    assert_eq!(said["certificates"], json!([{"size": 13, "revision": 0x200, "type": pkcs7, "signer": null}]));
+    let certificate = &said["certificates"][0];
+    assert_eq!(
+        [&certificate["size"], &certificate["type"], &certificate["signer"]],
+        [&json!(13), &pkcs7, &json!(null)]
+    );
+    assert_eq!(certificate["signer_error"]["name"], "SIGNATURE_TRUNCATED");
     assert_eq!(run(&["extract", &signed, "certificate", "-"]).0.as_bytes(), [0x30, 1, 2, 3, 4]);
     assert_eq!(run(&["extract", &signed, "certificate", "--number", "2", "-"]).2, 1);
     // All entries are what attach takes.
@@ -449,6 +468,13 @@ fn of_several_manifests_the_one_that_windows_looks_for_is_changed() {
         assert_eq!(run(&["set-manifest", &image, &out, &manifest]).2, 0);
         let found = ["1", "2"].map(|it| run(&["extract", &out, "resource", "-", "--type", "24", "--name", it]).0);
         assert_eq!(found, wanted);
+        // The part is the first of both, which need not be that one.
+        let (first, said, status) = run(&["extract", &out, "manifest", "-"]);
+        assert!(
+            said.contains(": the first of 2 that fit is written; the part resource with --type manifest"),
+            "{said}"
+        );
+        assert_eq!((first.as_str(), status), (wanted[0], 0));
     }
 }
 
@@ -471,6 +497,19 @@ fn icons_are_changed() {
     let (_, complaint, status) = run(&["extract", &path("less.exe"), "icon", &path("less.ico")]);
     assert!(status == 1 && complaint.contains("1 image of the group left out"), "{complaint}");
     assert_eq!(fs::read(path("less.ico")).unwrap(), icons(&[16, 32]));
+    // So is one that a group counts, and ends before.
+    assert_eq!(run(&["extract", &path("b.exe"), "resource", &path("group"), "--type", "14"]).2, 0);
+    for (entries, status) in [(2, 1), (0, 1)] {
+        let group = &fs::read(path("group")).unwrap()[..6 + 14 * entries];
+        let (to, cut) = (path(&format!("cut{entries}.exe")), folder.file("cut", group));
+        assert_eq!(run(&["set-resource", &path("b.exe"), &to, "14", "1", &cut]).2, 0);
+        let (_, complaint, ended) = run(&["extract", &to, "icon", &path(&format!("cut{entries}.ico"))]);
+        let said =
+            format!("{} left out: after its end, ", ["3 images of the group", "1 image of the group"][entries / 2]);
+        assert!(ended == status && complaint.contains(&said), "{complaint}");
+    }
+    assert_eq!(fs::read(path("cut2.ico")).unwrap(), icons(&[16, 24]));
+    assert!(!folder.0.join("cut0.ico").exists());
     // Other icons take its name, its language and its identifiers; those that are left over go.
     assert_eq!(run(&["set-icon", &path("b.exe"), &path("c.exe"), &one]).2, 0);
     assert_eq!(extracted("c.exe", "c.ico"), icons(&[48]));
@@ -551,11 +590,37 @@ fn versions_are_changed() {
     assert_eq!(strings.values().filter(|it| **it == "6.0.0.0").count(), 0);
     assert_eq!(run(&["set-version", &file, &path("d.exe")]).2, 2);
     assert_eq!(run(&["set-version", &file, &path("d.exe"), "--language", "1033"]).2, 2);
-    for words in
-        [["--file-version", "1.2.3.4.5"], ["--file-version", "65536"], ["--string", "=x"], ["--language", "no"]]
-    {
-        assert_eq!(run(&[&["set-version", &file, &path("d.exe")][..], &words].concat()).2, 2, "{words:?}");
+    for words in [
+        &["--file-version", "1.2.3.4.5"][..],
+        &["--file-version", "65536"],
+        &["--file-version", "+1"],
+        &["--string", "=x"],
+        &["--string", "A=b", "--string", "a=c"],
+        &["--language", "no", "--string", "A=b"],
+        &["--language", "+7", "--string", "A=b"],
+    ] {
+        assert_eq!(run(&[&["set-version", &file, &path("d.exe")][..], words].concat()).2, 2, "{words:?}");
     }
+    assert!(!folder.0.join("d.exe").exists());
+}
+
+/// A variable of a script that is not set, and a number that has no room.
+#[test]
+fn a_resource_has_a_type_and_a_name_by_which_it_is_found() {
+    let folder = Folder::new("resource-names");
+    let (file, content) = (folder.file("a.exe", &made::editable()), folder.file("b", b"content"));
+    let out = folder.0.join("out.exe").to_str().unwrap().to_string();
+    for words in [["", "1"], ["10", ""]] {
+        let (_, error, status) = run(&[&["set-resource", &file, &out][..], &words, &[&content]].concat());
+        assert_eq!((error.starts_with("error: a resource has a type and a name\n"), status), (true, 2), "{error}");
+    }
+    for words in [["10", "65536"], ["#70000", "1"], ["10", "0x10000"]] {
+        let (_, error, status) = run(&[&["set-resource", &file, &out][..], &words, &[&content]].concat());
+        assert_eq!((error.contains(" is no identifier, which is at most 65535, nor"), status), (true, 1), "{error}");
+    }
+    assert!(!folder.0.join("out.exe").exists());
+    let words = ["10", "65535"];
+    assert_eq!(run(&[&["set-resource", &file, &out][..], &words, &[&content]].concat()).2, 0);
 }
 
 /// `VOS_NT_WINDOWS32`, 0x40004, and `VFT_APP`, 1, or `VFT_DLL`, 2, 32 bytes after the signature 0xFEEF04BD, as verrsrc.h has them.
@@ -726,6 +791,7 @@ fn all_resources_are_extracted_into_a_folder() {
     let (_, complaints, status) = run(&["extract", &damaged, "resources", partly.to_str().unwrap()]);
     assert_eq!((complaints.contains("raw_data-6-1031: "), status), (true, 1), "{complaints}");
     assert_eq!(fs::read_dir(&partly).unwrap().count(), 2);
+    assert!(run(&[&damaged]).0.contains("; 1 whose content is not in the file\n"), "{}", run(&[&damaged]).0);
     // Leaves that share their content have more bytes than a file may ask for.
     let content = vec![7; 4096];
     let many: Vec<(u32, u32, &[u8])> = (1..=100).map(|it| (10, it, b"x".as_slice())).collect();
@@ -794,7 +860,15 @@ fn a_group_without_its_images_is_no_icon() {
     let (out, error, status) = run(&["extract", &file, "icon", "-"]);
     assert_eq!(
         (out.as_str(), error.as_str(), status),
-        ("", format!("pe: {file}: the image has no such part: icon\n").as_str(), 1)
+        (
+            "",
+            format!(
+                "pe: {file}: the image has no such part: icon: 1 image of the group left out: after its end, no resource of the image, \
+                 or too many bytes\n"
+            )
+            .as_str(),
+            1
+        )
     );
 }
 
@@ -967,7 +1041,11 @@ fn signers_and_pdb_keys_are_compared() {
     };
     let signed = made::with_signature();
     let rows = compared(&signed, &made::with_certificates(), "signers");
-    assert_eq!((rows.len(), &rows[0]["change"]), (1, &json!("removed")));
+    assert_eq!((rows.len(), &rows[0]["change"]), (2, &json!("removed")));
+    // A signature that is refused is a row too: it is there, and nobody says by whom it is.
+    let refused = "element of a signature truncated before its content (SIGNATURE_TRUNCATED)";
+    let found = [&rows[1]["change"], &rows[1]["name"], &rows[1]["after"]];
+    assert_eq!(found, [&json!("added"), &json!("a signature that is refused"), &json!(refused)]);
     let mut other = made::with_debug();
     let at = other.windows(4).position(|it| it == b"RSDS").unwrap();
     other[at + 20] += 1;
@@ -1095,6 +1173,9 @@ fn a_list_has_a_row_of_each_image() {
         ["md5sum", "sha1sum"].map(|it| sum_of(it, &made::with_resources()))
     );
     assert_eq!([cell(0, "signer"), cell(0, "pdb_key"), cell(1, "file_version")], ["", "", ""]);
+    let refused = run(&["list", &folder.file("e.exe", made::SMALL)]).0;
+    assert!(refused.lines().next().unwrap().contains(",time_stamp,signer_error,"), "{refused}");
+    assert!(refused.contains(" (SIGNATURE_TRUNCATED),"), "{refused}");
     assert_eq!(run(&["list", "--no-hashes", &named]).0.lines().count(), 2);
     assert!(run(&["list", &text]).0.contains(" (SHORT); it is a text,,"));
 }
@@ -1333,6 +1414,15 @@ fn what_may_never_end_is_not_read() {
     for name in ["pipe: skipped, it is no regular file", "ring: skipped, the link", "lost: skipped, the link"] {
         assert!(error.contains(name), "{error}");
     }
+    // A link to a folder is none of the folders that are read, and may have images.
+    for (number, said) in [(1, "one is a link to a folder, which is"), (2, "2 are links to folders, which are")] {
+        std::os::unix::fs::symlink("/", folder.0.join(format!("link{number}"))).unwrap();
+        let (_, error, status) = run(&["-r", folder.0.to_str().unwrap()]);
+        let counted = format!("pe: {} files are no images, and skipped; {said} not followed\n", 3 + number);
+        assert_eq!((error, status), (counted, 0));
+    }
+    let (_, error, _) = run(&["-r", "-v", folder.0.to_str().unwrap()]);
+    assert!(error.contains("link1: skipped, it is a link to a folder, which is not followed\n"), "{error}");
     let mut ran = Command::new(env!("CARGO_BIN_EXE_pe"));
     let mut ran = ran.arg("-").stdin(Stdio::piped()).stdout(Stdio::piped()).spawn().unwrap();
     ran.stdin.take().unwrap().write_all(made::SMALL).unwrap();
@@ -1350,6 +1440,17 @@ fn a_path_that_is_no_text_can_be_opened_again() {
     let said: Value = serde_json::from_slice(&ran.stdout).unwrap();
     let hex: String = path.as_os_str().as_bytes().iter().map(|it| format!("{it:02x}")).collect();
     assert_eq!(said["file_hex"], hex);
+    // Two such paths are told apart in text and tables, and where they are refused.
+    let said = |words: &[&str], path: &std::path::Path| {
+        let ran = Command::new(env!("CARGO_BIN_EXE_pe")).args(words).arg(path).output().unwrap();
+        String::from_utf8([ran.stdout, ran.stderr].concat()).unwrap()
+    };
+    for words in [&[][..], &["show"], &["list"], &["digest"], &["checksum"], &["verify"], &["key"], &["find", "kernel"]]
+    {
+        let said = [said(words, &path), said(words, &folder.0.join(std::ffi::OsStr::from_bytes(b"\xfe")))];
+        assert!(words.first() == Some(&"find") || said[0].contains("/\\xff.exe"), "{words:?}: {}", said[0]);
+        assert!(said[1].contains("/\\xfe: No such file"), "{words:?}: {}", said[1]);
+    }
     // Where no command comes first, words that are wrong are refused with the usage of the program.
     let words = ["--no-hashes", "--parts", "hashes"];
     let ran = Command::new(env!("CARGO_BIN_EXE_pe")).arg(&path).args(words).output().unwrap();
@@ -1376,6 +1477,13 @@ fn lines_fit_the_columns() {
         let starts: Vec<_> = said.lines().filter(|it| it.contains(" at 0x")).map(|it| it.find(" at 0x")).collect();
         assert!(starts.len() > 1 && starts.iter().all(|it| *it == starts[0]), "{columns}: {starts:?}\n{said}");
     }
+    // In the fewest columns no word is broken that has room in a line.
+    let said = said_in(Some(20), &[&folder.file("b.exe", made::SMALL)]);
+    assert!(
+        said.contains("\n  hardening\n    yes: has a\n    signature entry,\n    no writable\n    code; no: ASLR,\n"),
+        "{said}"
+    );
+    assert!(said.lines().skip(2).all(|it| columns_of(it) <= 20), "{said}");
 }
 
 /// How many columns of a terminal a line takes: two of each letter of East Asia.
@@ -1810,6 +1918,9 @@ fn te_images_are_shown_with_their_debug_data() {
         assert!(out.contains(&format!("\n  {part} not read of a TE image\n")), "{out}");
     }
     assert_eq!(status, 0);
+    let said = format!("pe: {file}: imports: not read of a TE image\n");
+    assert_eq!(run(&["show", "--csv", &file, "imports"]), (String::new(), said, 0));
+    assert_eq!(run(&["show", "--csv", &file, "sections"]).1, "");
 }
 
 #[test]
@@ -1829,6 +1940,9 @@ fn what_only_looks_like_an_object_is_refused() {
         let said: Value = serde_json::from_str(&line).unwrap();
         assert_eq!((said["file_kind"].as_str(), said.get("headers"), status), (kind, None, 1));
         assert_eq!(said["error"]["name"], "BAD_MAGIC");
+        let (out, _, _) = run(&[&folder.file("a.bin", &bytes)]);
+        let is_said = kind.map(|it| format!("; as {}: ", it.trim_end_matches(", as it seems")));
+        assert!(is_said.is_none_or(|it| out.contains(&it)), "{out}");
     }
     // With its end where the file has it, the section lies in it.
     let file = folder.file("b.bin", &object_with(&[(0x24, b"\x08\x01\0\0")]));
@@ -1842,7 +1956,8 @@ fn what_only_looks_like_an_object_is_refused() {
     folder.file("d.txt", b"text");
     let (out, error, status) = run(&["-r", folder.0.to_str().unwrap()]);
     let counted = "pe: 4 files are no images, and skipped; by their start 2 TE images, 1 COFF object\n";
-    assert_eq!((out.as_str(), error.as_str(), status), ("", counted, 0));
+    let none = "pe: no image is found\n";
+    assert_eq!((out.as_str(), error, status), ("", format!("{counted}{none}"), 0));
 }
 
 #[test]

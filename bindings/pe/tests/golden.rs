@@ -51,7 +51,7 @@ const MADE: &[(&str, &[&str])] = &[
             "  entry point   0x1000, image base 0x140000000\n",
             "  functions     2 with unwind data\n",
             "  0x1000  0x1010  0x1020\n  0x1020  0x1040  0x1001\n",
-            "  PKCS #7 signed data  0x0200    9\n",
+            "  PKCS #7 signed data  0x0200    9      refused: element of a signature truncated before its content (SIG",
             "  Repro  0x0  0x0          0\n",
             "function 0x1020 to 0x1040\n",
             "    after   4 bytes  UWOP_ALLOC          allocate 40 bytes of stack\n",
@@ -90,9 +90,9 @@ const MADE: &[(&str, &[&str])] = &[
     (
         "certificates",
         &[
-            "  certificate   PKCS #7 signed data, 9 bytes, not verified\n",
+            "  certificate   PKCS #7 signed data, 9 bytes, refused: element of a signature truncated before its content (SIGNATURE_",
             "  certificate   X.509, 8 bytes, not verified\n",
-            "  PKCS #7 signed data  0x0200    9\n  X.509                0x0100    8\n",
+            "content (SIGNATURE_TRUNCATED)\n  X.509                0x0100    8\n",
             "  certificate  offset 0x600  24\n",
             "\"directories\":[{\"index\":4,\"name\":\"certificate\",\"rva\":null,\"file_offset\":1536,\"size\":24}]",
         ],
@@ -210,7 +210,7 @@ const MADE: &[(&str, &[&str])] = &[
     (
         "named_resources",
         &[
-            "  resources     2, of 1 type\n",
+            "  resources     2, of 1 type; 1 whose content is not in the file\n",
             "  AB    #1    English (US)  0x1000    5      1252",
             "  AB    #1    German        0x990000  6      0          RVA maps to no file offset\n",
             "  warning       resources: resource data entry above the level of languages (TREE_NOT_DIRECTORY)\n",

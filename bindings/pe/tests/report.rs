@@ -92,6 +92,26 @@ fn hostile(folder: &Folder) -> String {
     folder.file("<img src=x onerror='document.title=1'>\".exe", &bytes)
 }
 
+/// Who makes a page need not open it.
+#[test]
+fn what_is_refused_stands_on_standard_error_too() {
+    let folder = Folder::new("report-errors");
+    let image = folder.file("a.exe", &made::with_refused_import());
+    let (_, error, status) = run(&["report", &image, folder.0.join("a.html").to_str().unwrap()]);
+    let why = "import name not NUL-terminated or not UTF-8 (IMPORT_NAME)";
+    assert_eq!((error, status), (format!("pe: {image}: imports: {why}\n"), 1));
+    let text = folder.file("b.txt", b"text");
+    let (page, error, status) = run(&["report", &text, "-"]);
+    let why = "image: truncated: 64 bytes needed at offset 0x0 (SHORT); it is a text";
+    assert_eq!(
+        (page.contains("refused: no image, but a text"), error, status),
+        (true, format!("pe: {text}: {why}\n"), 1)
+    );
+    let dump = folder.file("c.dmp", &made::dump()[..40]);
+    let (_, error, status) = run(&["report", &dump, "-"]);
+    assert_eq!((error.starts_with(&format!("pe: {dump}: dump: ")), status), (true, 1), "{error}");
+}
+
 #[test]
 fn a_digest_is_of_a_file_and_not_of_memory() {
     let folder = Folder::new("mapped-digest");

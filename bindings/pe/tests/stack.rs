@@ -458,7 +458,10 @@ fn links_to_folders_are_followed_where_they_are_named() {
     assert_eq!(run(&["key", "--missing", &dump, "--symbols", &above]).1, said);
     assert_eq!(
         run(&["-r", "-v", &above]).1,
-        format!("pe: {above}/link: skipped, it is no regular file\npe: 1 file is no image, and skipped\n")
+        format!(
+            "pe: {above}/link: skipped, it is a link to a folder, which is not followed\npe: 1 file is no image, and skipped; one is \
+             a link to a folder, which is not followed\npe: no image is found\n"
+        )
     );
 }
 
@@ -522,6 +525,15 @@ fn a_folder_and_a_thread_that_are_not_there_are_said() {
     assert_eq!(status, 3);
     let (_, complaints, status) = run(&["stack", &dump, "--thread", "99", "--json"]);
     assert_eq!((complaints, status), (format!("pe: {dump}: no thread has the number 99\n"), 1));
+    // A dump that says what the system is alone.
+    let bare = folder.file("b.dmp", &made::dump_of(&[made::x64_system()], &[]));
+    let (out, complaints, status) = run(&["stack", &bare]);
+    for list in ["threads", "modules"] {
+        assert!(out.contains(&format!("  {list}       the dump has no list of them\n")), "{out}");
+    }
+    assert_eq!((complaints.as_str(), status), ("", 0));
+    let (_, complaints, status) = run(&["stack", &bare, "--thread", "99"]);
+    assert_eq!((complaints, status), (format!("pe: {bare}: no thread has the number 99\n"), 1));
 }
 
 /// A dump whose exception has this code and these parameters.

@@ -1,7 +1,8 @@
 //! The attribute certificates, and by whom those that are signatures are. Nothing is verified here: `pe verify` does that.
 
 use super::signatures::{algorithm_of, text_of};
-use super::{entry, hex_of, List, Named, Part};
+use super::{entry, hex_of, List, Named, Part, Refusal};
+use crate::escape::escaped;
 use crate::names::CERTIFICATE_TYPES;
 use pe_c::{Image, SignatureError, Time};
 use serde::Serialize;
@@ -12,8 +13,18 @@ pub struct Certificate {
     pub size: u32,
     pub revision: u16,
     pub r#type: Named,
-    /// Of a signature its first signer. Null where it is refused, and of what is no signature.
+    /// Of a signature its first signer. Null where it is refused or has none, and of what is no signature.
     pub signer: Option<CertificateSigner>,
+    /// Why the signature or its first signer is refused.
+    pub signer_error: Option<Refusal>,
+}
+
+impl Certificate {
+    /// By whom it is, or why that is refused.
+    pub fn said_of_signer(&self) -> Option<String> {
+        let refused = || self.signer_error.as_ref().map(|it| format!("refused: {it}"));
+        self.signer.as_ref().map(|it| escaped(&it.to_string())).or_else(refused)
+    }
 }
 
 /// By whom a signature is, as it says.
@@ -62,11 +73,18 @@ fn signer_of(certificate: &pe_c::Certificate<'_>) -> Result<Option<CertificateSi
 }
 
 pub fn of(image: &Image<'_>) -> Part<List<Certificate>> {
-    let certificates = List::of(image.certificates(), |certificate| Certificate {
-        size: certificate.length,
-        revision: certificate.revision,
-        r#type: Named::of(certificate.kind.into(), CERTIFICATE_TYPES),
-        signer: signer_of(&certificate).ok().flatten(),
+    let certificates = List::of(image.certificates(), |certificate| {
+        let (signer, refused) = match signer_of(&certificate) {
+            Ok(signer) => (signer, None),
+            Err(refused) => (None, Some(refused)),
+        };
+        Certificate {
+            size: certificate.length,
+            revision: certificate.revision,
+            r#type: Named::of(certificate.kind.into(), CERTIFICATE_TYPES),
+            signer,
+            signer_error: refused.map(|it| it.error.into()),
+        }
     });
     let is_none = certificates.entries.is_empty() && certificates.error.is_none();
     if is_none {

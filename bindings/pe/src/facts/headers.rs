@@ -23,7 +23,8 @@ pub struct Headers {
     /// Seconds since 1970, or a hash where `is_reproducible`.
     #[serde(flatten)]
     pub stamp: Stamp,
-    pub is_reproducible: bool,
+    /// Null where the debug data are refused, which would say it.
+    pub is_reproducible: Option<bool>,
     pub entry_rva: u32,
     pub image_base_va: u64,
     pub size_of_image: u32,
@@ -61,7 +62,7 @@ pub struct Directory {
 
 pub fn of(image: &Image<'_>, file_name: &str, has_hashes: bool) -> Headers {
     let info = image.info();
-    let is_reproducible = matches!(image.repro(), Ok(Some(_)));
+    let is_reproducible = image.repro().ok().map(|it| it.is_some());
     let (right_checksum, checksum_state) = if has_hashes { checksum_of(image) } else { (None, None) };
     Headers {
         format: match info.width {
@@ -72,7 +73,7 @@ pub fn of(image: &Image<'_>, file_name: &str, has_hashes: bool) -> Headers {
         is_dll: info.characteristics & IS_DLL != 0,
         machine: Named::of(info.machine.into(), MACHINES),
         subsystem: Named::of(info.subsystem.into(), SUBSYSTEMS),
-        stamp: Stamp { seconds: info.time_date_stamp, is_hash: is_reproducible },
+        stamp: Stamp { seconds: info.time_date_stamp, is_hash: is_reproducible == Some(true) },
         is_reproducible,
         entry_rva: info.entry,
         image_base_va: info.base,

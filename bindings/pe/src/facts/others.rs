@@ -25,6 +25,19 @@ impl<'a> Other<'a> {
         }
     }
 
+    /// Why a file that starts as one of these is none.
+    pub fn refused(bytes: &[u8]) -> Option<String> {
+        match kind_of(bytes)? {
+            TE_IMAGE => Te::parse(bytes).err().map(|error| format!("as a TE image: {error}")),
+            OBJECT_AS_IT_SEEMS => Some(match Coff::parse(bytes) {
+                Err(error) => format!("as a COFF object: {error}"),
+                Ok(object) if object.sections().is_empty() => "as a COFF object: it has no section".to_string(),
+                Ok(_) => "as a COFF object: the file ends before a section does".to_string(),
+            }),
+            _ => None,
+        }
+    }
+
     /// What the file is.
     pub fn kind(&self) -> &'static str {
         match self {

@@ -2,11 +2,11 @@
 
 use super::markup::Html;
 use super::{end, filter, grouped, head, list, table, warnings, OPEN_ROWS, ROWS};
-use crate::escape::escaped;
 use crate::facts::counted;
 use crate::files;
 use crate::new_file::Target;
 use crate::stack::{self, Asked, Places, Told};
+use crate::streams::{complain, complaint};
 use crate::tables::Table;
 use crate::Status;
 use std::io::{self, Write};
@@ -26,7 +26,9 @@ pub fn write_to(
     let told = stack::told(path, bytes, places, asked);
     let is_refused = stack::lacks_thread(&told, path, asked) || told.is_refused();
     let status = if is_refused { Status::Refused } else { Status::Done };
-    files::deliver_written(to, status, out, &mut |out| write_page(&told, bytes.len(), out))
+    let written = files::deliver_written(to, status, out, &mut |out| write_page(&told, bytes.len(), out))?;
+    told.refusals().into_iter().for_each(|(part, it)| complain(complaint(path, format_args!("{part}: {it}"))));
+    Ok(written)
 }
 
 fn write_page(told: &Told, size: usize, out: &mut dyn Write) -> io::Result<()> {
@@ -34,7 +36,7 @@ fn write_page(told: &Told, size: usize, out: &mut dyn Write) -> io::Result<()> {
     let name = Path::new(&told.origin.file).file_name().map(|it| it.to_string_lossy()).unwrap_or_default();
     head(&name, &mut html);
     html.markup("<header><h1>").text(&name).markup("</h1><p>minidump · ").text(grouped(size as u64));
-    html.markup(" bytes</p><p class=path>").text(escaped(&told.origin.file)).markup("</p></header>");
+    html.markup(" bytes</p><p class=path>").text(told.origin.shown_file()).markup("</p></header>");
     let mut refused = told.refusals();
     refused.extend(told.damaged_tables().map(|(_, it)| ("function table of a module", it)));
     refused.extend(told.damaged_names().map(|(_, _, it)| ("names of a module", it)));

@@ -29,10 +29,9 @@ fn version_of(facts: &Facts) -> Vec<Row> {
 fn signature_of(facts: &Facts) -> Option<Row> {
     let is_signed = facts.hardening.as_ref()?.signed;
     let entries = facts.certificates.as_ref().map_or(&[][..], Part::entries);
-    let signer = entries
-        .iter()
-        .find_map(|it| it.signer.as_ref())
-        .map_or(String::new(), |it| format!(" by {}", escaped(&it.to_string())));
+    let signer = entries.iter().find_map(|it| it.signer.as_ref()).map(|it| format!(" by {}", escaped(&it.to_string())));
+    let refused = || entries.iter().find(|it| it.signer_error.is_some()).and_then(|it| it.said_of_signer());
+    let signer = signer.or_else(|| refused().map(|it| format!(", {it}"))).unwrap_or_default();
     Some(match (is_signed, entries.len()) {
         (Some(true), 1) => ("signature", format!("an entry{signer}, not verified"), ""),
         (Some(true), count) => ("signature", format!("{count} entries of certificates{signer}, not verified"), ""),

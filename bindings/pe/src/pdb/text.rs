@@ -10,7 +10,7 @@ use crate::tables::{number, text, Row, Table};
 pub fn of(told: &Told, style: Style) -> String {
     let mut page = Page::new(style);
     let machine = told.head.machine.as_ref().map_or(String::new(), |it| format!(" for {it}"));
-    page.heading(&format!("{}: PDB 7.0{machine}", escaped(&told.origin.file)));
+    page.heading(&format!("{}: PDB 7.0{machine}", told.origin.shown_file()));
     for (label, value) in summary(told) {
         page.row(label, value);
     }

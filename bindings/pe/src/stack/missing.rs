@@ -136,7 +136,7 @@ pub fn write(path: &Path, bytes: &[u8], stores: &Stores, is_json: bool, out: &mu
 /// Its lines end where they end: the paths are there to be copied.
 fn text_of(missing: &Missing) -> String {
     let mut page = Page::new(Style::of_stdout().whole());
-    page.heading(&escaped(&missing.origin.file));
+    page.heading(&missing.origin.shown_file());
     for refusal in missing.error.iter().chain(missing.missing.refusal()) {
         page.warning(refusal);
     }

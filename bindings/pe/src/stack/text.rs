@@ -5,7 +5,7 @@ use super::pdbs::ToldPdb;
 use super::told::{Exception, Frame, Memory, Module, System, Thread, Told, Unloaded};
 use super::FRAMES;
 use crate::escape::escaped;
-use crate::facts::{counted, Named};
+use crate::facts::{counted, Named, Part};
 use crate::page::{Page, Style};
 use crate::pdb::frames::{function_name, inlined_text};
 use crate::show::time_of;
@@ -18,7 +18,7 @@ const GUID_DIGITS: usize = 32;
 /// Writes the text, a thread at a time.
 pub fn write(told: &Told, style: Style, out: &mut dyn Write) -> io::Result<()> {
     let mut page = Page::new(style);
-    page.heading(&escaped(&told.origin.file));
+    page.heading(&told.origin.shown_file());
     for (label, value) in summary(told) {
         page.row(label, value);
     }
@@ -92,6 +92,7 @@ pub fn summary(told: &Told) -> Vec<Row> {
     }
     rows.extend(told.written.0.filter(|it| it.seconds != 0).map(|it| ("written", time_of(it.seconds))));
     rows.extend(told.memory.iter().map(|it| ("memory", memory_of(it))));
+    rows.extend(absent(told).map(|label| (label, "the dump has no list of them".to_string())));
     if told.lost() > 0 && told.without_images() > 0 {
         let (lost, without) = (counted(told.lost(), "stack"), counted(told.without_images(), "module"));
         rows.push((
@@ -110,6 +111,13 @@ pub fn summary(told: &Told) -> Vec<Row> {
         rows.push(("names", "the dump has more names than are shown".to_string()));
     }
     rows
+}
+
+/// The lists that the dump does not have.
+fn absent(told: &Told) -> impl Iterator<Item = &'static str> {
+    let (threads, modules) = (matches!(told.threads, Part::Absent), matches!(told.modules, Part::Absent));
+    let is_read = told.error.is_none();
+    [("threads", threads), ("modules", modules)].into_iter().filter(move |it| it.1 && is_read).map(|it| it.0)
 }
 
 /// The first frame of the crash in a module that is not of Windows: where it is, and what is said of it by this.

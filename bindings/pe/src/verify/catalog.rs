@@ -37,6 +37,8 @@ pub struct Catalog {
     members: BTreeMap<Key, Member>,
     hashes: BTreeSet<Hash>,
     entries: usize,
+    /// How many of the entries have no digest that is read here: an image that is one of these is not found.
+    entries_not_read: usize,
     signature: Signature,
     /// Whether it has more signers than are told, or nested signatures.
     pub is_limited: bool,
@@ -48,6 +50,7 @@ pub struct Listed {
     pub file: String,
     pub file_hex: Option<String>,
     pub entries: usize,
+    pub entries_not_read: usize,
     pub is_listed: bool,
 }
 
@@ -89,13 +92,17 @@ impl Catalog {
             members: BTreeMap::new(),
             hashes: BTreeSet::new(),
             entries: 0,
+            entries_not_read: 0,
             signature: Signature::default(),
             is_limited: false,
         };
         for member in elements(members) {
-            if let Some((key, tables)) = member_of(&member) {
-                found.hashes.insert(key.0);
-                found.members.entry(key).or_insert(Member { entry: found.entries, tables });
+            match member_of(&member) {
+                Some((key, tables)) => {
+                    found.hashes.insert(key.0);
+                    found.members.entry(key).or_insert(Member { entry: found.entries, tables });
+                }
+                None => found.entries_not_read += 1,
             }
             found.entries += 1;
         }
@@ -128,6 +135,8 @@ impl Catalog {
             (signature.with_weak(hash), member)
         });
         let is_listed = found.is_some();
-        (Listed { file: origin.file, file_hex: origin.file_hex, entries: self.entries, is_listed }, found)
+        let Origin { file, file_hex, .. } = origin;
+        let Catalog { entries, entries_not_read, .. } = *self;
+        (Listed { file, file_hex, entries, entries_not_read, is_listed }, found)
     }
 }

@@ -39,7 +39,7 @@ fn words_of_digest(digest: &Compared) -> String {
 
 pub fn of(verified: &Verified, style: Style) -> String {
     let mut page = Page::new(style);
-    page.heading(&escaped(&verified.origin.file));
+    page.heading(&verified.origin.shown_file());
     for signature in &verified.signatures {
         signature_of(signature, &mut page);
     }
@@ -51,7 +51,12 @@ pub fn of(verified: &Verified, style: Style) -> String {
     }
     for catalog in verified.catalogs.iter().filter(|it| !it.is_listed) {
         let entries = if catalog.entries == 1 { "entry" } else { "entries" };
-        let said = format!("{}, which does not list the image ({} {entries})", escaped(&catalog.file), catalog.entries);
+        let unread = match catalog.entries_not_read {
+            0 => String::new(),
+            count => format!(", of which {count} without a digest that is read here"),
+        };
+        let file = escaped(&catalog.file);
+        let said = format!("{file}, which does not list the image ({} {entries}{unread})", catalog.entries);
         page.row("catalog", said);
     }
     if verified.other_entries > 0 {

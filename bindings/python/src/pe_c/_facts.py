@@ -150,7 +150,8 @@ def hyphenated(digits: str) -> str:
 
 
 def headers(image: Exact, file: str) -> Facts:
-    info, is_reproducible = image.value("headers"), image.value("repro") is not None
+    info, (repro, refused, _) = image.value("headers"), image.read("repro")
+    is_reproducible = None if refused else repro is not None
     right = image.value("checksum") if image.has_hashes and not info.mode & Mode.MAPPED else None
     state = None if right is None else "none" if info.checksum == 0 else "right" if info.checksum == right.value else "wrong"
     # Standard input has no name.
@@ -158,7 +159,7 @@ def headers(image: Exact, file: str) -> Facts:
     return {
         "format": {64: "PE32+", 32: "PE32"}.get(info.width), "is_dll": bool(info.characteristics & 0x2000),
         "machine": named(info.machine, names.MACHINES), "subsystem": named(info.subsystem, names.SUBSYSTEMS),
-        **stamp(info.time_date_stamp, is_reproducible), "is_reproducible": is_reproducible, "entry_rva": info.entry,
+        **stamp(info.time_date_stamp, is_reproducible is True), "is_reproducible": is_reproducible, "entry_rva": info.entry,
         "image_base_va": info.base, "size_of_image": info.size_of_image, "size_of_headers": info.size_of_headers,
         "section_alignment": info.section_alignment, "file_alignment": info.file_alignment, "checksum": info.checksum,
         "right_checksum": right.value if right else None, "checksum_state": state,
@@ -454,9 +455,11 @@ def debug(image: Exact) -> Facts:
 
 def certificates(image: Exact) -> Facts:
     found, number, is_limited = image.read("certificates")
-    return rows("certificates", (found or (() if number else None), number, is_limited),
-                lambda it: {"size": it.length, "revision": it.revision, "type": named(it.type, names.CERTIFICATE_TYPES),
-                            "signer": signer_of(it)})
+    def shown(it: _core.Certificate) -> Facts:
+        signer, error = signer_of(it)
+        return {"size": it.length, "revision": it.revision, "type": named(it.type, names.CERTIFICATE_TYPES), "signer": signer,
+                "signer_error": refusal(error)}
+    return rows("certificates", (found or (() if number else None), number, is_limited), shown)
 
 
 def functions(image: Exact) -> Facts:

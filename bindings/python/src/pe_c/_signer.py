@@ -16,16 +16,16 @@ DIGESTS = {KnownOid.MD5: "MD5", KnownOid.SHA1: "SHA-1", KnownOid.SHA256: "SHA-25
            KnownOid.SHA512: "SHA-512"}
 
 
-def signer_of(certificate: _core.Certificate) -> dict[str, Any] | None:
-    """The first signer of a certificate that is a signature; None where it is refused, and of what is no signature."""
+def signer_of(certificate: _core.Certificate) -> tuple[dict[str, Any] | None, int]:
+    """The first signer of a certificate that is a signature, None of what is none; and the number of the error by which it is refused."""
     if certificate.type != WIN_CERT_TYPE_PKCS_SIGNED_DATA:
-        return None
+        return None, 0
     try:
         signature = Signature(certificate.body)
         at = _first(signature, signature.row.signers)
-        return None if at is None else _told(signature, signature._asked("signer", "signer", at.offset, at.length))
-    except Error:
-        return None
+        return None if at is None else _told(signature, signature._asked("signer", "signer", at.offset, at.length)), 0
+    except Error as error:
+        return None, error.number
 
 
 def _told(signature: Signature, signer: _core.SignerInfo) -> dict[str, Any]:
