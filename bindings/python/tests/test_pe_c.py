@@ -3,6 +3,7 @@
 The environment names PE_C_IMAGES, the folder of images that `cargo run --example made` of bindings/rust makes. What is
 expected of them stands in tools/bindings too, of the program in C."""
 import array
+import copy
 import gc
 import hashlib
 import importlib.util
@@ -403,7 +404,21 @@ class Buffers(unittest.TestCase):
 
     def test_bytes_are_not_copied(self):
         data = bytes_of("exports")
-        self.assertIs(pe_c.Image(data).memory.obj, data)
+        for view in (data, memoryview(data), memoryview(data)[:-1]):
+            self.assertIs(pe_c.Image(view).memory.obj, data)
+
+    def test_what_a_memoryview_shows_is_copied_where_it_may_be_written(self):
+        buffer = bytearray(bytes_of("exports"))
+        view = memoryview(buffer).toreadonly()
+        image, held = pe_c.Image(view), pe_c.Image(view, copy=False)
+        buffer[:] = bytes(len(buffer))
+        self.assertEqual(all_of(image), all_of(made("exports")))
+        # What is held is what the caller wrote: no headers, for who reads them again.
+        self.assertEqual(bytes(held.memory), buffer)
+        for again in (copy.copy, pe_c.ResourceEditor):
+            with self.assertRaises(pe_c.Error) as caught:
+                again(held)
+            self.assertEqual((caught.exception.kind, caught.exception.part), (Kind.BAD_MAGIC, "headers"))
 
     def test_contents_outlive_the_image(self):
         image = pe_c.Image(bytes(bytearray(bytes_of("resources"))))

@@ -87,6 +87,11 @@ class Part(tuple[T, ...]):
     error: Error | None = None
     is_limited: bool = False
 
+    def __repr__(self) -> str:
+        """That of the tuple, and what ended it."""
+        said = [f"error={self.error!r}"] * bool(self.error) + ["is_limited=True"] * self.is_limited
+        return f"Part({', '.join([super().__repr__(), *said])})" if said else super().__repr__()
+
     def check(self) -> Part[T]:
         """The rows, if they are all there. Raises the error that ended them, and Kind.ROOM where they are limited."""
         if self.error:
