@@ -305,6 +305,8 @@ class Values(unittest.TestCase):
     def test_a_directory_of_zeros_is_no_warning(self):
         zeros = pe_c.Image(hostile.image(bytes(64), {5: (hostile.RVA, 8)}))
         self.assertEqual((zeros.relocations, zeros.relocations.error, zeros.warnings), ((), None, ()))
+        nowhere = pe_c.Image(hostile.image(bytes(64), {5: (0x7F00, 0)}))
+        self.assertEqual((nowhere.relocations.error.kind, nowhere.warnings[0].part), (Kind.UNMAPPED, "relocations"))
         self.assertEqual(pe_c.Image(hostile.image(bytes(64), {5: (hostile.RVA, 8)})).warnings, ())
         damaged = pe_c.Image(hostile.image(b"\0\0\0\0\3" + bytes(59), {5: (hostile.RVA, 8)}))
         self.assertEqual([(it.kind, it.error.kind) for it in damaged.warnings],

@@ -227,8 +227,8 @@ class Image(Reader):
                 at = self.headers.directories[IMAGE_DIRECTORY_ENTRY_BASERELOC]
                 offset = self.offset_of(at.virtual_address)
                 content = b"" if offset is None else self.memory[offset:offset + at.size]
-                # One that the file does not have may be zeros, or not.
-                part.error = part.error if len(content) < at.size or any(content) else None
+                # One that the file does not have may be zeros, or not, and one of no bytes is none of zeros.
+                part.error = part.error if not content or len(content) < at.size or any(content) else None
             return part
         return self._once("relocations", read)
 
