@@ -440,6 +440,9 @@ class Files(unittest.TestCase):
         image = pe_c.open(os.path.join(IMAGES, "debug.bin"))
         self.assertEqual((image.machine, image.machine.name, isinstance(image.machine, int)), (0x8664, "AMD64", True))
         self.assertEqual((pe_c.Machine(0x1234).name, pe_c.Machine(0x1234)), ("0x1234", 0x1234))
+        for machine in (pe_c.Machine(0x1234), image.machine):
+            for copied in (copy.copy(machine), copy.deepcopy(machine), pickle.loads(pickle.dumps(machine))):
+                self.assertEqual((copied, copied.name, hash(copied), type(copied)), (machine, machine.name, hash(machine), pe_c.Machine))
         with self.assertRaises(ValueError):
             pe_c.Machine(1 << 16)
         # The path of the GUID 497B72F6-390A-44FC-878E-5A2D63B6CC4B, age 1, as README has it.

@@ -369,6 +369,14 @@ class Values(unittest.TestCase):
         self.assertEqual(str(pe_c.ImageWarning(pe_c.WarningKind.DAMAGED, *parts[:2], None, parts[2])), wanted)
         self.assertIs(Kind(12345), Kind.OTHER)
         self.assertEqual(pickle.loads(pickle.dumps(pe_c.Error(2, "truncated", "headers"))).kind, Kind.SHORT)
+        self.assertEqual(len({pe_c.Error(2, "truncated", it) for it in ("headers", "headers", "tls")} - {ValueError(2, "truncated")}), 2)
+
+    def test_warnings_are_values(self):
+        """Those of an image that is read twice are the same, and so are those that another process sends."""
+        one, other = made("refused_import"), made("refused_import")
+        self.assertTrue(one.warnings[0].error)
+        self.assertEqual((one.warnings, one.imports.error), (other.warnings, other.imports.error))
+        self.assertEqual(pickle.loads(pickle.dumps(one.warnings)), one.warnings)
 
 
 class Buffers(unittest.TestCase):

@@ -35,6 +35,13 @@ class Error(ValueError):
         """The number as a constant; Kind.OTHER for one that this version does not know."""
         return Kind(self.number)
 
+    # A value, as the warning is that it stands in.
+    def __eq__(self, other: object) -> bool:
+        return type(other) is type(self) and isinstance(other, Error) and self.args == other.args
+
+    def __hash__(self) -> int:
+        return hash(self.args)
+
     def __str__(self) -> str:
         return as_line(self.path, self.part, self.text)
 
