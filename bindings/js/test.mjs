@@ -78,7 +78,13 @@ test('what is no bytes is not written', () => {
     assert.throws(() => image.edit([{ ...resource, content }]), TypeError);
     assert.throws(() => image.attach(content), TypeError);
   }
-  for (const value of ['<assembly/>', [1, 2], 5]) assert.throws(() => library.versionBlock({ key: 'a', value }), TypeError);
+  for (const value of ['<assembly/>', [1, 2], 5, 0, '']) assert.throws(() => library.versionBlock({ key: 'a', value }), TypeError);
+  for (const key of [5, null, undefined]) assert.throws(() => library.versionBlock({ key }), TypeError);
+  const version = (strings) => () => library.versionInfo({ strings });
+  for (const strings of [new Map([['CompanyName', 'a']]), [['CompanyName', 'a']], null, 'a', { CompanyName: 0 }, { CompanyName: 5 }, { CompanyName: null }]) {
+    assert.throws(version(strings), TypeError);
+  }
+  assert.ok(version({ CompanyName: '' })().length > version({})().length);
   for (const text of [[97, 0], 'a', new Uint16Array(2)]) {
     assert.throws(() => library.call('pe_c_write_block', { key: text, is_text: 1, value: bytes, children: bytes }), TypeError);
   }
