@@ -38,7 +38,8 @@ class ResourceEditor:
     """
 
     def __init__(self, image: Image) -> None:
-        """Raises Error where not all resources can be read: those that are left out would be lost."""
+        """Raises Error where not all resources can be read: those that are left out would be lost. The image is that of a file: what is
+        written of one as loaded is no file."""
         self._image = image
         core, number = _core.image(image.memory, image.headers.mode, False, IMAGE, True)
         if core is None:

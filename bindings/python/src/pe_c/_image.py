@@ -556,13 +556,13 @@ class Image(Reader):
         return mapped
 
     def attach(self, certificate: bytes, *, in_place: bool = False) -> bytes:
-        """The file with an entry of a certificate table (WIN_CERTIFICATE) after its others, or in their place. Raises
-        Error."""
+        """The file with an entry of a certificate table (WIN_CERTIFICATE) after its others, or in their place. Bytes as loaded are taken for
+        those of a file. Raises Error."""
         file: bytes = self._asked("attach", "attach", certificate, int(in_place))
         return file
 
     def detach(self) -> bytes:
-        """The file without its certificates. Raises Error."""
+        """The file without its certificates. Bytes as loaded are taken for those of a file. Raises Error."""
         file: bytes = self._asked("detach", "detach")
         return file
 
