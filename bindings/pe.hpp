@@ -40,7 +40,11 @@
 #if defined(PE_C_EXCEPTIONS)
 #include <stdexcept>
 #endif
-#if __cplusplus >= 202002L
+/* Which says whether there is std::span: MSVC leaves __cplusplus as it was in 1998. */
+#if __has_include(<version>)
+#include <version>
+#endif
+#if defined(__cpp_lib_span)
 #include <span>
 #endif
 
@@ -93,7 +97,7 @@ class image;
 
 /* A value, or why there is none: an error, or PE_C_NOTHING where the file has nothing of the kind. Without a value * and -> lead to
  * an empty one. */
-template <class T> class outcome {
+template <class T> class [[nodiscard]] outcome {
 public:
     outcome(T value) : value_(std::move(value)) {}
     outcome(result why) : why_(why) {}
@@ -146,7 +150,7 @@ private:
 
 /* The entries of a list, for one `for`: they are read as it runs, some at a time, and are valid up to the next step. The list ends
  * at its end or at an error, which `refused` returns then. */
-template <class Entry, class Call> class entries {
+template <class Entry, class Call> class [[nodiscard]] entries {
 public:
     class iterator {
     public:
@@ -156,7 +160,8 @@ public:
         using pointer = const Entry *;
         using reference = const Entry &;
 
-        explicit iterator(entries *of) : of_(of) {}
+        iterator() noexcept = default;
+        explicit iterator(entries *of) noexcept : of_(of) {}
         reference operator*() const { return of_->room_[of_->next_]; }
         pointer operator->() const { return &**this; }
         iterator &operator++()
@@ -170,7 +175,7 @@ public:
         bool operator!=(const iterator &other) const { return of_ != other.of_; }
 
     private:
-        entries *of_;
+        entries *of_ = nullptr;
     };
 
     /* What lists further entries, up to `most` of a list that has begun. */

@@ -41,7 +41,7 @@ int main(int argc, char **argv)
     size_t stack_length = 0;
     uint64_t base = hexadecimal(argv[2], UINT64_MAX);
     for (int i = 4; i < argc; i++, stack_length += 8)
-        for (int j = 0; j < 8; j++)
+        for (size_t j = 0; j < 8; j++)
             stack[stack_length + j] = (uint8_t)(hexadecimal(argv[i], UINT64_MAX) >> 8 * j);
 
     pe_c_module module = PE_C_EMPTY;

@@ -150,6 +150,9 @@ export class Caller {
   #array(filled, [own, type, way], given) {
     const values = given[own] ?? (type === 'uint8_t' ? new Uint8Array() : []), memory = this.#memory, size = width(type);
     if (type === 'uint8_t' && values.BYTES_PER_ELEMENT !== 1) throw new TypeError(`${own} is a Uint8Array, and not ${kindOf(values)}`);
+    // What else has no length would take room without an end.
+    const isArray = values instanceof Room || Array.isArray(values) || ArrayBuffer.isView(values);
+    if (!isArray || !Number.isInteger(values.length)) throw new TypeError(`${own} is an array, and not ${kindOf(values)}`);
     const at = memory.reserve(values.length * size);
     if (values instanceof Room) values.at = at;
     else if (type === 'uint8_t') new Uint8Array(memory.exports.memory.buffer, at, values.length).set(values);
@@ -297,7 +300,8 @@ export class File extends Caller {
   /** Where a range of the bytes is in the memory, which has other bytes around them. */
   #place({ offset, length }) {
     const start = Number(offset), size = Number(length);
-    if (start >= 0 && size >= 0 && start + size <= this.length) return [this.#start + start, size];
+    const isWhole = Number.isInteger(start) && Number.isInteger(size);
+    if (isWhole && start >= 0 && size >= 0 && start + size <= this.length) return [this.#start + start, size];
     throw new RangeError(`${length} bytes at ${offset} are not in the ${this.length} bytes of the file`);
   }
 

@@ -25,6 +25,9 @@ const LISTS = {
 
 /** A minidump. A stream that is damaged costs that stream alone. */
 export class Dump extends File {
+  // What was said of each kind of stream, each of which reads the directory: its range, null, or why it is refused.
+  #streams = new Map();
+
   constructor(memory, bytes) {
     super(memory, placed(memory, bytes));
     /** pe_c_dump_info */
@@ -38,7 +41,19 @@ export class Dump extends File {
 
   /** The range of the stream of a kind, PE_C_*_STREAM, or null. */
   stream(type) {
-    return this.call('pe_c_dump_stream', { directory: this.info.directory, stream_type: type });
+    if (!this.#streams.has(type)) this.#streams.set(type, this.#found(type));
+    const found = this.#streams.get(type);
+    if (found instanceof PeError) throw this.refused(found.call, found.constant);
+    return found && { ...found };
+  }
+
+  #found(type) {
+    try {
+      return this.call('pe_c_dump_stream', { directory: this.info.directory, stream_type: type });
+    } catch (error) {
+      if (!(error instanceof PeError)) throw error;
+      return error;
+    }
   }
 
   /** The records of a list, none where its stream is absent: see index.d.ts for the names. */

@@ -251,7 +251,9 @@ function exports(image) {
     for (const it of namedExports(image, exports)) {
       isLimited = !budget.takes(ITEM + Number(it.name.length));
       if (isLimited) break;
-      byIndex.set(it.index, [...(byIndex.get(it.index) ?? []), image.utf8(it.name)]);
+      // All names of a hostile image may have one index.
+      if (!byIndex.has(it.index)) byIndex.set(it.index, []);
+      byIndex.get(it.index).push(image.utf8(it.name));
     }
     budget = new Budget(image);
     const entries = [];

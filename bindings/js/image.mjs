@@ -7,8 +7,8 @@ import { recordsOf, resourcesOf } from './resources.mjs';
 import { symbolsOf } from './symbols.mjs';
 
 const ARM64 = 0xAA64;
-// What names an address, by its number in pe_c_function_name.
-const SOURCES = [null, 'symbol', 'export'];
+// What names an address, by its number in pe_c_function_name; and the tables of which names are read.
+const SOURCES = [null, 'symbol', 'export'], NAME_TABLES = ['functions', 'symbols', 'strings', 'exports'];
 
 // The lists of an image: the call that starts each, the one that returns its next item or many, and for calls that read names
 // together how many runs they take for each. `place` is the field of a walk that says where it stands, beside the sections that it
@@ -186,8 +186,9 @@ export class Image extends File {
     }
   }
 
-  /** The certificates of the certificate table. */
+  /** The certificates of the certificate table; none of an image as loaded, which has something else at the table's file offset. */
   *certificates() {
+    if (this.info.mode & constants.PE_C_MAPPED) return;
     const { virtual_address: offset, size: length } = this.info.directories[constants.PE_C_DIRECTORY_SECURITY];
     yield* this.items('pe_c_next_certificate', { offset: BigInt(offset), length: BigInt(length) });
   }
@@ -215,14 +216,19 @@ export class Image extends File {
   }
 
   /** What names each of these addresses without a PDB: RVAs, which return addresses are where `isReturn`. It is the last COFF symbol within
-   * its function, else the export that starts it, or in an image without a function table the nearest of either; else null. */
+   * its function, else the export that starts it, or in an image without a function table the nearest of either; else null. `damaged` has
+   * the tables of names that are refused. */
   functionNames(addresses) {
     const asked = addresses.map((it) => ({
       rva: whole('uint32_t', it.rva), is_return: Number(only('fields of an address', ['rva', 'isReturn'], it).isReturn ?? false) }));
     const sources = this.call('pe_c_name_tables'), names = asked.map(() => ({}));
     this.call('pe_c_function_names', { sources, addresses: asked, room: placeFor(sources.room), names });
-    return names.map(({ name, start, offset, source, is_nearest: isNearest }) => source === 0 ? null : {
+    const found = names.map(({ name, start, offset, source, is_nearest: isNearest }) => source === 0 ? null : {
       name: name.length > 0n ? this.utf8(name) : null, start, offset, source: SOURCES[source], isNearest: isNearest === 1 });
+    const results = NAME_TABLES.map((part) => [part, sources[`${part}_result`]]);
+    const damaged = results.filter(([, it]) => it !== constants.PE_C_DONE && it !== constants.PE_C_NOTHING)
+      .map(([part, it]) => ({ part, error: memoryOf(this).error('pe_c_name_tables', it) }));
+    return Object.assign(found, { damaged });
   }
 
   /** The unwind records of an x64 function, up to the root of its chain. */

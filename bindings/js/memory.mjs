@@ -172,8 +172,8 @@ export class Memory {
     for (const [name, kind, offset, count] of fields) {
       const size = width(kind), own = value?.[name];
       if (own !== undefined || (value && Object.hasOwn(value, name))) known++;
-      if (count && own?.length > count) throw new RangeError(`${name} has room for ${count}, and not for ${own.length}`);
       const values = own === undefined ? [] : count ? [...own] : [own];
+      if (count && values.length > count) throw new RangeError(`${name} has room for ${count}, and not for ${values.length}`);
       values.forEach((it, i) => this.write(kind, at + offset + i * size, it));
     }
     if (!value || typeof value !== 'object' || Object.keys(value).length > known) {

@@ -106,11 +106,14 @@ function* exportedOf(image, table) {
 
 export function exportsOf(image) {
   const table = attempt(() => image.call('pe_c_export_addresses')), budget = new Budget(image);
-  if (!table.value) return Object.assign([], { error: table.error, isLimited: false });
+  if (!table.value) return Object.assign([], { error: table.error, isLimited: false, namesLeftOut: table.error ? null : 0 });
   const text = (range) => (range ? image.utf8(range) : null), length = (range) => Number(range?.length ?? 0);
-  return rows(exportedOf(image, table.value), ({ name, ordinal, rva, forwarder }) => (
+  const found = rows(exportedOf(image, table.value), ({ name, ordinal, rva, forwarder }) => (
     budget.takes(ITEM + length(name) + length(forwarder))
       ? { name: text(name), ordinal, rva, forwarder: text(forwarder) } : null));
+  const isWhole = !found.error && !found.isLimited, named = found.filter((it) => it.name !== null).length;
+  const namesLeftOut = isWhole ? image.call('pe_c_export_directory').number_of_names - named : null;
+  return Object.assign(found, { namesLeftOut });
 }
 
 // ---- version information and manifest

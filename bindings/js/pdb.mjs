@@ -336,6 +336,8 @@ export class Pdb extends File {
   /** The parts that are refused, of those that name RVAs, each with its PeError. */
   get damaged() {
     this.#read();
+    // The tables of code that was moved are read too.
+    this.#moved(0);
     return this.#errors.slice();
   }
 

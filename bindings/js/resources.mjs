@@ -10,10 +10,15 @@ const SIGNATURE = 0xFEEF04BD, UNICODE = 1200;
 
 /** The code units of a text, little-endian. A text of JavaScript has them, an unpaired surrogate too. */
 function units(text) {
+  // A number has no length, and would be an empty text.
+  if (typeof text !== 'string') throw new TypeError(`${String(text)} is no text`);
   const bytes = new Uint8Array(2 * text.length), view = new DataView(bytes.buffer);
   for (let i = 0; i < text.length; i++) view.setUint16(2 * i, text.charCodeAt(i), true);
   return bytes;
 }
+
+/** The same with a zero at the end, but of an empty text. */
+const ended = (text) => joined([units(text), new Uint8Array(text ? 2 : 0)]);
 
 function textOf(bytes) {
   const view = new DataView(bytes.buffer, bytes.byteOffset);
@@ -98,11 +103,12 @@ export function recordsOf(resources) {
 /** A block of version information and the blocks in it, as bytes: a value is bytes, or a text. */
 export function blockOf(caller, block) {
   const { key, text = '', value, children = [] } = only('fields of a block', ['key', 'text', 'value', 'children'], block);
+  const hasText = value === undefined || value === null;
   const given = {
-    key: units(key), is_text: value ? 0 : 1, value: value ? bytesOf(value) : units(text ? `${text}\0` : ''),
+    key: units(key), is_text: Number(hasText), value: hasText ? ended(text) : bytesOf(value),
     children: joined(children.map((it) => blockOf(caller, it))),
   };
-  if (text && value) throw new TypeError('a block has a value or a text, and not both');
+  if (text && !hasText) throw new TypeError('a block has a value or a text, and not both');
   // A reader takes a text up to its first zero.
   if (text.includes('\0')) throw memoryOf(caller).error('pe_c_write_block', constants.PE_C_BLOCK_TEXT);
   return written(caller, 'pe_c_write_block', given);
@@ -113,10 +119,12 @@ export function versionOf(caller, information) {
   const names = ['fileVersion', 'productVersion', 'language', 'strings'];
   only('parts of version information', names, information);
   const { fileVersion = [0, 0, 0, 0], productVersion = fileVersion, language = 0, strings = {} } = information;
+  // A Map, or another list of pairs, has no names of its own, and would be no strings.
+  if (strings === null || typeof strings !== 'object' || Symbol.iterator in strings) throw new TypeError('strings are an object with a text for each name');
   const word = (value) => whole('uint16_t', value), double = (high, low) => word(high) * 0x10000 + word(low);
   if (fileVersion.length !== 4 || productVersion.length !== 4) throw new RangeError('a version has four numbers');
   const [file, product] = [fileVersion, productVersion].map(([a, b, c, d]) => [double(a, b), double(c, d)]);
-  const rows = Object.entries(strings).map(([key, text]) => ({ name: units(key), text: units(text ? `${text}\0` : '') }));
+  const rows = Object.entries(strings).map(([key, text]) => ({ name: units(key), text: ended(text) }));
   // A reader takes a text up to its first zero.
   if (Object.values(strings).some((it) => it.includes('\0'))) throw memoryOf(caller).error('pe_c_write_version', constants.PE_C_BLOCK_TEXT);
   const { parts, range } = ranges(), pair = { language: word(language), code_page: UNICODE };

@@ -1,5 +1,7 @@
 // A program over the package's types, beside uses.ts, with calls that they refuse: tools/try_js compiles both by tsc --strict.
 import { facts, factsOf, kindOf, type Facts } from 'pe-c/facts';
+// @ts-expect-error what File and Image share is no class of the package
+import { type Opened } from 'pe-c';
 import { load, PeError, type Given, type PeDumpThread, type PeLibrary, type PeStackWalk, type PeSymbolEntry } from 'pe-c';
 const library = await load(), bytes = new Uint8Array(3);
 const image = library.open(bytes), other = library.open(new DataView(bytes.buffer), { mode: 1 }).info.mode;

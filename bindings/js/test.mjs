@@ -59,7 +59,8 @@ test('a range that is not in the file has no bytes', () => {
   const image = opened('imports'), length = BigInt(image.length);
   assert.deepEqual([...image.slice({ offset: 0, length: 2 })], [0x4D, 0x5A]);
   assert.equal(image.slice({ offset: length, length: 0n }).length, 0);
-  for (const range of [{ offset: length - 2n, length: 3n }, { offset: -1n, length: 2n }, { offset: 1n << 40n, length: 1n }, { offset: 2, length: -1 }, {}]) {
+  for (const range of [{ offset: length - 2n, length: 3n }, { offset: -1n, length: 2n }, { offset: 1n << 40n, length: 1n }, { offset: 2, length: -1 },
+    { offset: 0.5, length: 1 }, { offset: 0, length: 1.5 }, {}]) {
     for (const name of ['slice', 'utf8', 'utf16']) assert.throws(() => image[name](range), RangeError);
   }
 });
@@ -77,7 +78,13 @@ test('what is no bytes is not written', () => {
     assert.throws(() => image.edit([{ ...resource, content }]), TypeError);
     assert.throws(() => image.attach(content), TypeError);
   }
-  for (const value of ['<assembly/>', [1, 2], 5]) assert.throws(() => library.versionBlock({ key: 'a', value }), TypeError);
+  for (const value of ['<assembly/>', [1, 2], 5, 0, '']) assert.throws(() => library.versionBlock({ key: 'a', value }), TypeError);
+  for (const key of [5, null, undefined]) assert.throws(() => library.versionBlock({ key }), TypeError);
+  const version = (strings) => () => library.versionInfo({ strings });
+  for (const strings of [new Map([['CompanyName', 'a']]), [['CompanyName', 'a']], null, 'a', { CompanyName: 0 }, { CompanyName: 5 }, { CompanyName: null }]) {
+    assert.throws(version(strings), TypeError);
+  }
+  assert.ok(version({ CompanyName: '' })().length > version({})().length);
   for (const text of [[97, 0], 'a', new Uint16Array(2)]) {
     assert.throws(() => library.call('pe_c_write_block', { key: text, is_text: 1, value: bytes, children: bytes }), TypeError);
   }
@@ -273,6 +280,14 @@ test('parameters that are missing or unknown', () => {
   assert.throws(() => library.call('pe_c_coff'), /needs bytes/);
   assert.throws(() => image.call('pe_c_next_frame', { walk: {} }), /needs modules/);
   assert.throws(() => image.call('pe_c_next_library', {}), /needs walk/);
+  // What is no array has no room, and takes none of that of others.
+  for (const room of [new Set([1]), {}, { length: 1.5 }, 'a', 5]) {
+    assert.throws(() => image.call('pe_c_list_functions', { table, next: 0n, entries: room }), (it) => it instanceof TypeError && it.message.includes('entries is an array, and not'));
+  }
+  assert.equal(image.call('pe_c_list_functions', { table, next: 0n, entries: [{}] }).written, 1n);
+  // Nor does one of more items than its field has, whatever lists them.
+  const key = { guid: new Set(Array(17).keys()), age: 1 };
+  assert.throws(() => image.call('pe_c_is_pdb_of', { key, pdb: {} }), (it) => it instanceof RangeError && it.message.includes('guid has room for 16'));
 });
 
 test('numbers that do not fit are no other numbers', () => {
@@ -312,6 +327,14 @@ test('certificates are attached, listed and detached', () => {
   new DataView(whole.buffer).setUint32(Number(offset), value, true);
   assert.deepEqual(bare, whole);
   assert.equal(image.call('pe_c_digest_ranges').ranges.length, 4);
+});
+
+test('an image as loaded has no certificates and no symbols', () => {
+  const mode = constants.PE_C_PERMISSIVE + constants.PE_C_MAPPED, bytes = file('signature'), said = factsOf(library, bytes, 'a.dll', { mode });
+  assert.deepEqual([opened('signature').signatures().length, opened('signature', mode).signatures().length], [1, 0]);
+  assert.deepEqual([said.certificates, said.certificates_error, said.hardening.signed], [null, null, false]);
+  assert.equal(factsOf(library, bytes, 'a.dll').hardening.signed, true);
+  assert.deepEqual([opened('long_section_name').symbols() === null, opened('long_section_name', mode).symbols()], [false, null]);
 });
 
 test('sections are written', () => {
@@ -734,6 +757,22 @@ test('facts pay for forwarders that have no text', () => {
   assert.deepEqual([found.entries.length, found.is_limited], [16, true]);
 });
 
+test('names of one export cost what they are', () => {
+  const count = 100_000, names = 44, ordinals = names + 4 * count, text = ordinals + 2 * count, content = new Uint8Array(text + 2);
+  content.set(words32([0, 0, 0, 0, 1, 1, count, 0x1000 + 40, 0x1000 + names, 0x1000 + ordinals, 0x9000]), 0);
+  content.set(words32(Array(count).fill(0x1000 + text)), names);
+  content[text] = 0x61;
+  const bytes = madeImage(content, [[0, 0x1000, 40]]), started = performance.now(), found = factsOf(library, bytes, 'a.dll').exports;
+  assert.deepEqual([found.entries.length, found.entries[0].names.length, found.is_limited], [1, count, false]);
+  const exports = library.open(bytes).exports();
+  assert.deepEqual([exports.length, exports.namesLeftOut], [count, 0]);
+  // Without a name the export stands among those that have none.
+  content[text] = 0xFF;
+  const without = library.open(madeImage(content, [[0, 0x1000, 40]])).exports();
+  assert.deepEqual([[...without], without.namesLeftOut], [[{ name: null, ordinal: 1, rva: 0x9000, forwarder: null }], count]);
+  assert.ok(performance.now() - started < 5_000);
+});
+
 test('directories have fields of their own', () => {
   const exported = opened('exports'), table = exported.call('pe_c_export_addresses');
   const fields = exported.call('pe_c_export_directory');
@@ -983,6 +1022,27 @@ test('each stream of a minidump', () => {
   assert.equal(refused(() => library.openDump(bytes)).constant, 'PE_C_DUMP_VERSION');
 });
 
+test('the directory of a minidump is read once for each kind of stream', () => {
+  const bytes = Uint8Array.from(readFileSync(join(folder, 'x64.dmp'))), view = new DataView(bytes.buffer), kinds = [];
+  const read = () => {
+    const dump = library.openDump(bytes);
+    dump.call = (name, given) => {
+      if (name === 'pe_c_dump_stream') kinds.push(given.stream_type);
+      return caller.call.call(dump, name, given);
+    };
+    return [...dump.list('threads')].map((it) => dump.contextOf(it).registers.rip);
+  };
+  const found = read();
+  assert.deepEqual([found.length, kinds], [2, [3, 6, 7]]);
+  // One that is refused too, which an error is each time.
+  for (let i = 0, entry = view.getUint32(12, true); i < 12; i++, entry += 12) {
+    if (view.getUint32(entry, true) === 6) view.setUint32(entry + 4, 0xFFFFFFFF, true);
+  }
+  assert.deepEqual([read().length, kinds.length], [2, 6]);
+  const dump = library.openDump(bytes);
+  for (let i = 0; i < 2; i++) assert.equal(refused(() => dump.exception()).constant, 'PE_C_DUMP_LOCATION');
+});
+
 test('why a process crashed, in words', () => {
   const bytes = Uint8Array.from(readFileSync(join(folder, 'x64.dmp'))), view = new DataView(bytes.buffer);
   const at = Buffer.from(bytes).indexOf(Uint8Array.of(0x24, 0, 0, 0, 0, 0, 0, 0, 5, 0, 0, 0xC0));
@@ -1162,6 +1222,10 @@ test('code that was moved is named', () => {
   assert.deepEqual(pdb.frames(0x304B).map(({ name, start }) => [name, start]), [['local', 0x3040]]);
   assert.deepEqual([0x1050, 0x304C].map((it) => pdb.find(it)), [null, null]);
   assert.deepEqual([pdb.isMoved, pdb.damaged], [true, []]);
+  // Of tables that are refused nothing is found, and that is said whether or not something was looked for.
+  view.setUint16(streams + 6, 0x7777, true);
+  const damaged = library.openPdb(bytes);
+  assert.deepEqual([damaged.damaged.map((it) => [it.part, it.error.constant]), damaged.find(0x3025)], [[['OMAP', 'PE_C_PDB_NO_STREAM']], null]);
   const table = library.file(pdb.stream(pdb.info.omap_from_source));
   assert.deepEqual([0x1060, 0x1000].map((rva) => table.call('pe_c_pdb_moved_rva', { rva })), [0x3020, null]);
 });
@@ -1579,7 +1643,7 @@ test('imports and exports as values', () => {
   assert.deepEqual([first.name, functions(first), second.name, functions(second), more],
     ['KERNEL32.dll', [['Sleep', null, 42], [null, 17, null]], 'a.dll', [['f', null, 0]], []]);
   const { exports } = factsOf(library, file('exports'), 'a.dll'), found = opened('exports').exports();
-  assert.deepEqual([found.error, found.isLimited], [null, false]);
+  assert.deepEqual([found.error, found.isLimited, found.namesLeftOut], [null, false, exports.names_left_out]);
   const said = exports.entries.flatMap(({ names, ordinal, rva, forwarder }) => (
     (names.length ? names : [null]).map((name) => ({ name, ordinal, rva, forwarder }))));
   const order = (one, other) => one.ordinal - other.ordinal || String(one.name).localeCompare(String(other.name));
@@ -1647,7 +1711,13 @@ test('names of functions without a PDB', () => {
   const [at, before, after, none] = image.functionNames(asked);
   assert.deepEqual([at, after, none], [found, { ...found, offset: 1 }, null]);
   assert.notDeepEqual(before, found);
-  assert.deepEqual(image.functionNames([]), []);
+  assert.deepEqual([...image.functionNames([]), ...image.functionNames(asked).damaged], []);
+  // The tables of exports of an image where their directory is unmapped: names are those of nothing.
+  const bytes = Uint8Array.from(file('exports'));
+  new DataView(bytes.buffer).setUint32(0xC8, 0x0FFFFFFF, true);
+  const refused_ = library.open(bytes).functionNames(asked);
+  assert.deepEqual([[...refused_], refused_.damaged.map((it) => [it.part, it.error.constant, it.error.call])],
+    [[null, null, null, null], [['exports', 'PE_C_UNMAPPED', 'pe_c_name_tables']]]);
   assert.equal(opened('functions').functionNames([{ rva: 0 }])[0], null);
 });
 

@@ -1,7 +1,7 @@
 // A program that uses each public name of the package's types, with sample.ts: tools/try_js compiles both by tsc --strict and
 // asks whether a name is missing.
-import { abi, constants, load, results, version, type Bytes, type Coff, type Dump, type DumpLists, type ExportedFunction, type File,
-  type FunctionName, type Image, type ImportedFunction, type ImportedLibrary, type Library, type Lists, type Module, type Pdb,
+import { abi, constants, load, results, version, type Bytes, type Coff, type Dump, type DumpLists, type ExportedFunction,
+  type ExportedFunctions, type File, type FunctionName, type FunctionNames, type Image, type ImportedFunction, type ImportedLibrary, type Library, type Lists, type Module, type Pdb,
   type PdbFrame, type PdbLine, type PdbModule, type PdbSymbol, type PeError, type Process,
   type Resource, type Rows, type Signature, type Signer, type Symbols, type TeImage, type Version, type VersionBlock,
   type VersionInfo } from 'pe-c';
@@ -11,7 +11,7 @@ import { facts, factsOf, kindOf, type Facts } from 'pe-c/facts';
 function names(image: Image): (string | null)[] {
   const libraries: Rows<ImportedLibrary> = image.imports(), later: Rows<ImportedLibrary> = image.delayImports();
   const imported: ImportedFunction[] = [...libraries, ...later].flatMap((it: ImportedLibrary) => [...it.functions]);
-  const exported: Rows<ExportedFunction> = image.exports(), failed: PeError | null = exported.error;
+  const exported: ExportedFunctions = image.exports(), failed: PeError | null = exported.error, all: Rows<ExportedFunction> = exported;
   const numbers: (number | null)[] = imported.flatMap((it) => [it.hint, it.ordinal]), places = exported.map((it) => [it.rva, it.forwarder]);
   const unmapped: boolean[] = libraries.map((it) => it.hasUnmappedList);
   for (const library of image.list('libraries')) {
@@ -20,14 +20,15 @@ function names(image: Image): (string | null)[] {
   }
   for (const it of image.list('delayImports')) numbers.push([...image.delayedFunctions(it)].length);
   numbers.push([...image.exportAddresses()].length, [...image.boundImports()].flatMap((it) => it.forwarders).length);
-  return [String(numbers), String(places), String(unmapped), failed?.constant ?? null, String(exported.isLimited)];
+  return [String(numbers), String(places), String(unmapped), failed?.constant ?? null, String(exported.namesLeftOut), String(all.isLimited)];
 }
 
 /** The parts that are records. */
 function parts(image: Image): unknown[] {
   image.index();
   const table = image.functionTable(), found: unknown[] = [table, image.info.mode, image.headers(), image.sections.length, image.length];
-  const asked: (FunctionName | null)[] = image.functionNames([{ rva: 0x1000 }, { rva: 0x1005, isReturn: true }]);
+  const asked: FunctionNames = image.functionNames([{ rva: 0x1000 }, { rva: 0x1005, isReturn: true }]), [one]: (FunctionName | null)[] = asked;
+  found.push(one, asked.damaged.map((it) => [it.part, it.error.number]));
   found.push(asked.map((it) => it && [it.name, it.start, it.offset, it.source, it.isNearest]));
   for (const it of image.functions()) {
     if (!('unwind' in it && 'end' in it)) continue;

@@ -4,6 +4,11 @@
 #include <cstdio>
 #include <fstream>
 #include <iterator>
+#if defined(__cpp_lib_ranges)
+#include <ranges>
+using functions = decltype(std::declval<const pe_c::image &>().functions());
+static_assert(std::ranges::input_range<functions>, "a list is one for std::views");
+#endif
 int main(int, char **argv)
 {
     std::ifstream file(argv[1], std::ios::binary);

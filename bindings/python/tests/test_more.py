@@ -133,6 +133,7 @@ class Signatures(unittest.TestCase):
         self.assertEqual(signature.digest.hex(), "d2a14c9f681445506a86fe95951af765d1badb45d72602d8fec09fb63541c3d3")
         self.assertEqual(image.digest("sha256"), signature.digest.hex())
         nested, = signature.signers[0].nested
+        self.assertIs(signature.signers[0].nested[0], nested)
         self.assertEqual((nested.digest_algorithm, nested.digest.hex()), ("sha384", image.digest("sha384")))
         changed = bytearray(signed())
         changed[-len(image.certificates[0].body) - 0x60] ^= 1
@@ -290,10 +291,15 @@ class Stacks(unittest.TestCase):
         image, memory = pe_c.Image(bytes_of("functions.bin")), bytes(16)
         with self.assertRaises(pe_c.Error):
             pe_c.walk(self.registers(1, 2), [(image, BASE)], memory, [(0x20000, 8, 9)])
+        dump = pe_c.Dump(bytes_of("x64.dmp"))
+        with self.assertRaisesRegex(TypeError, "registers are pe_c.Registers or pe_c.Arm64Registers, and not "):
+            pe_c.walk(dump.context(dump.threads[0]), [], b"", [])
         image.close()
         with self.assertRaises(ValueError):
             pe_c.walk(self.registers(1, 2), [(image, BASE)], memory, [(0x20000, 0, 8)])
-        self.assertEqual(pe_c.walk(self.registers(1, 2), [], b"", [], 1 << 31).frames[0].registers.rip, 1)
+        for most in (1 << 31, 1 << 32, 1 << 40):
+            self.assertEqual(pe_c.walk(self.registers(1, 2), [], b"", [], most).frames[0].registers.rip, 1)
+        self.assertEqual(pe_c.walk(self.registers(1, 2), [], b"", [], 0).frames, ())
 
     def test_modules_that_overlap(self):
         """Modules may stand in any order; of those that overlap the first one has an address, wherever it starts."""
@@ -434,6 +440,9 @@ class Files(unittest.TestCase):
         image = pe_c.open(os.path.join(IMAGES, "debug.bin"))
         self.assertEqual((image.machine, image.machine.name, isinstance(image.machine, int)), (0x8664, "AMD64", True))
         self.assertEqual((pe_c.Machine(0x1234).name, pe_c.Machine(0x1234)), ("0x1234", 0x1234))
+        for machine in (pe_c.Machine(0x1234), image.machine):
+            for copied in (copy.copy(machine), copy.deepcopy(machine), pickle.loads(pickle.dumps(machine))):
+                self.assertEqual((copied, copied.name, hash(copied), type(copied)), (machine, machine.name, hash(machine), pe_c.Machine))
         with self.assertRaises(ValueError):
             pe_c.Machine(1 << 16)
         # The path of the GUID 497B72F6-390A-44FC-878E-5A2D63B6CC4B, age 1, as README has it.
@@ -618,6 +627,9 @@ class Dumps(unittest.TestCase):
         dump, (address, offset, length) = self.in_pieces(6000)
         self.assertIn((address, offset, length), dump.pieces)
         self.assertTrue(all(one[0] + one[2] <= other[0] for one, other in zip(dump.pieces, dump.pieces[1:])))
+        # What a loop asks for again is there.
+        self.assertIs(dump.pieces, dump.pieces)
+        self.assertIs(dump.warnings, dump.warnings)
         for at in (address, address + length // 2, address + length - 1):
             self.assertEqual(bytes(dump.at(at, 1)), bytes(dump.memory[offset + at - address:][:1]))
         self.assertEqual(len(dump.at(0x900000 + 64 * 5999 + 127, 8)), 1)
@@ -860,6 +872,9 @@ class Edits(unittest.TestCase):
         for content in (5, True, "text", [1, 2], None):
             with self.assertRaises(TypeError):
                 editor.set(1, 1, 2, content)
+        for place in ((1.5, 1, 2), (1, None, 2), (1, b"A", 2), (1, 1, "2")):
+            with self.assertRaises(TypeError):
+                editor.set(*place, b"")
         editor.remove(1, 1, 1)
         editor.set(16, 1, 0x409, pe_c.version_info(file_version=(1, 2, 3, 4), strings={"ProductName": "Größe", "FileVersion": "1.2.3.4"}))
         written = pe_c.Image(editor.write())
@@ -933,8 +948,32 @@ class Loaded(unittest.TestCase):
         self.assertEqual(caught.exception.kind, Kind.DIRECTORY_RELOCATION_KIND)
         with self.assertRaises(TypeError):
             pe_c.Image(self.image()).map("0")
+        for base in (-1, 1 << 64):
+            with self.assertRaises(ValueError) as misuse:
+                pe_c.Image(self.image()).map(base)
+            self.assertNotIsInstance(misuse.exception, pe_c.Error)
+            with self.assertRaises(pefile.PEFormatError):
+                pefile.PE(data=self.image()).get_memory_mapped_image(ImageBase=base)
         with self.assertRaises(pefile.PEFormatError):
             pefile.PE(data=self.image()).get_memory_mapped_image(0x1000)
+
+    def test_what_is_no_part_of_an_image_as_loaded(self):
+        mode = pe_c.Mode.PERMISSIVE | pe_c.Mode.MAPPED
+        for name in ("long_section_name.bin", "signature.bin"):
+            file, loaded = pe_c.Image(bytes_of(name)), pe_c.Image(bytes_of(name), mode)
+            self.assertTrue(file.symbols.error or file.certificates)
+            for part in (loaded.symbols, loaded.certificates, loaded.signatures):
+                self.assertEqual((part, part.error), ((), None))
+            self.assertEqual((loaded.to_dict()["digest"], file.to_dict()["digest"]), (None, file.digest()))
+
+    def test_the_data_of_sections_of_an_image_as_loaded(self):
+        file = pe_c.Image(self.image())
+        loaded = pe_c.Image(file.map(), pe_c.Mode.PERMISSIVE | pe_c.Mode.MAPPED)
+        one, = loaded.sections
+        self.assertEqual(bytes(loaded.data(one)), bytes(loaded.at(one.virtual_address, one.virtual_size)))
+        self.assertEqual(bytes(loaded.data(one)), bytes(file.data(one))[:one.virtual_size])
+        self.assertEqual((loaded.entropy(one), loaded.entropies), (file.entropy(one), file.entropies))
+        self.assertGreater(file.entropy(one), 0)
 
     def test_more_bytes_than_a_caller_takes(self):
         data = bytearray(self.image())

@@ -163,6 +163,16 @@ class Damaged(unittest.TestCase):
         self.assertEqual((pdb.publics.error.kind, pdb.functions.error.kind), (Kind.PDB_DBI_SIGNATURE,) * 2)
         self.assertEqual((pdb.find(0x1000), pdb.is_moved), (None, False))
         self.assertTrue(all(it[2] == Kind.PDB_DBI_SIGNATURE for it in self.kinds(pdb)) and pdb.warnings)
+        self.assertEqual(repr(pdb.modules), f"Part((), error={pdb.modules.error!r})")
+
+    def test_records_are_read_once(self):
+        pdb = self.changed((MODULE + 72, 1), (MODULE + 73, 0))
+        first, warned = pdb.publics, self.kinds(pdb)
+        for it in (pdb._publics, *pdb._functions.modules.values()):
+            it.all = None
+        self.assertIs(pdb.publics, first)
+        self.assertEqual(self.kinds(pdb), warned)
+        self.assertEqual(repr(first), repr(tuple(first)))
 
     def test_damaged_files(self):
         """Whatever is damaged, nothing but an Error is raised, and each answer is a row or None."""

@@ -3,6 +3,7 @@
 The environment names PE_C_IMAGES, the folder of images that `cargo run --example made` of bindings/rust makes. What is
 expected of them stands in tools/bindings too, of the program in C."""
 import array
+import copy
 import gc
 import hashlib
 import importlib.util
@@ -304,6 +305,8 @@ class Values(unittest.TestCase):
     def test_a_directory_of_zeros_is_no_warning(self):
         zeros = pe_c.Image(hostile.image(bytes(64), {5: (hostile.RVA, 8)}))
         self.assertEqual((zeros.relocations, zeros.relocations.error, zeros.warnings), ((), None, ()))
+        nowhere = pe_c.Image(hostile.image(bytes(64), {5: (0x7F00, 0)}))
+        self.assertEqual((nowhere.relocations.error.kind, nowhere.warnings[0].part), (Kind.UNMAPPED, "relocations"))
         self.assertEqual(pe_c.Image(hostile.image(bytes(64), {5: (hostile.RVA, 8)})).warnings, ())
         damaged = pe_c.Image(hostile.image(b"\0\0\0\0\3" + bytes(59), {5: (hostile.RVA, 8)}))
         self.assertEqual([(it.kind, it.error.kind) for it in damaged.warnings],
@@ -366,6 +369,14 @@ class Values(unittest.TestCase):
         self.assertEqual(str(pe_c.ImageWarning(pe_c.WarningKind.DAMAGED, *parts[:2], None, parts[2])), wanted)
         self.assertIs(Kind(12345), Kind.OTHER)
         self.assertEqual(pickle.loads(pickle.dumps(pe_c.Error(2, "truncated", "headers"))).kind, Kind.SHORT)
+        self.assertEqual(len({pe_c.Error(2, "truncated", it) for it in ("headers", "headers", "tls")} - {ValueError(2, "truncated")}), 2)
+
+    def test_warnings_are_values(self):
+        """Those of an image that is read twice are the same, and so are those that another process sends."""
+        one, other = made("refused_import"), made("refused_import")
+        self.assertTrue(one.warnings[0].error)
+        self.assertEqual((one.warnings, one.imports.error), (other.warnings, other.imports.error))
+        self.assertEqual(pickle.loads(pickle.dumps(one.warnings)), one.warnings)
 
 
 class Buffers(unittest.TestCase):
@@ -403,7 +414,21 @@ class Buffers(unittest.TestCase):
 
     def test_bytes_are_not_copied(self):
         data = bytes_of("exports")
-        self.assertIs(pe_c.Image(data).memory.obj, data)
+        for view in (data, memoryview(data), memoryview(data)[:-1]):
+            self.assertIs(pe_c.Image(view).memory.obj, data)
+
+    def test_what_a_memoryview_shows_is_copied_where_it_may_be_written(self):
+        buffer = bytearray(bytes_of("exports"))
+        view = memoryview(buffer).toreadonly()
+        image, held = pe_c.Image(view), pe_c.Image(view, copy=False)
+        buffer[:] = bytes(len(buffer))
+        self.assertEqual(all_of(image), all_of(made("exports")))
+        # What is held is what the caller wrote: no headers, for who reads them again.
+        self.assertEqual(bytes(held.memory), buffer)
+        for again in (copy.copy, pe_c.ResourceEditor):
+            with self.assertRaises(pe_c.Error) as caught:
+                again(held)
+            self.assertEqual((caught.exception.kind, caught.exception.part), (Kind.BAD_MAGIC, "headers"))
 
     def test_contents_outlive_the_image(self):
         image = pe_c.Image(bytes(bytearray(bytes_of("resources"))))

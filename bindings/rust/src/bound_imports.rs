@@ -91,6 +91,28 @@ impl<'a, T: Copy + Default> Entries<'a, T> {
     }
 }
 
+impl Entries<'_, sys::BoundImport> {
+    /// Why the entry that is an error is one.
+    fn failure(&self) -> Option<Failure> {
+        let walk = self.refused.as_ref()?;
+        found(look(self.bytes, sys::pe_c_bound_import_failure, &self.table, walk as *const _))
+    }
+}
+
+impl Entries<'_, sys::BoundForwarder> {
+    /// The same of a forwarder, of which the name alone is refused: where that is stands in the entry, after the time stamp.
+    fn failure(&self) -> Option<Failure> {
+        let (mut walk, mut out) = (self.refused?, sys::BoundForwarder::default());
+        let entry = self.bytes.get(usize::try_from(walk.offset).ok()?..)?;
+        let offset = u64::from(u16::from_le_bytes([*entry.get(4)?, *entry.get(5)?]));
+        let (start, length) = (self.bytes.as_ptr(), self.bytes.len());
+        // SAFETY: the pointer and the length are those of one slice; the records are lent for the call.
+        let number = unsafe { sys::pe_c_next_bound_forwarder(start, length, &self.table, &mut walk, &mut out) };
+        let error = returned(number, ()).err()?;
+        (error == Error::DIRECTORY_BOUND_IMPORT_NAME).then_some(Failure { error, offset, needed: 0, value: None })
+    }
+}
+
 /// A DLL that an image is bound to.
 #[derive(Clone)]
 pub struct BoundImport<'a> {
@@ -155,9 +177,7 @@ impl BoundImports<'_> {
     /// Why the item that is an error is one: the error with its numbers, the offset of a name from the start of the directory. `None`
     /// where no item was an error, or it was [`Error::MEMORY`].
     pub fn failure(&self) -> Option<Failure> {
-        let Entries { bytes, table, refused, .. } = &self.0;
-        let walk = refused.as_ref()?;
-        found(look(bytes, sys::pe_c_bound_import_failure, table, walk as *const _))
+        self.0.failure()
     }
 }
 
@@ -177,6 +197,14 @@ impl<'a> Iterator for BoundForwarders<'a> {
 }
 
 impl FusedIterator for BoundForwarders<'_> {}
+
+impl BoundForwarders<'_> {
+    /// Why the item that is an error is one: the error with the offset of the name, from the start of the directory. `None` where no item
+    /// was an error, or it was [`Error::MEMORY`].
+    pub fn failure(&self) -> Option<Failure> {
+        self.0.failure()
+    }
+}
 
 /// A DLL that another one forwards to, and that other one.
 #[derive(Clone, Copy, Default, PartialEq, Eq)]
@@ -259,6 +287,13 @@ impl<'a> Iterator for AllBoundForwarders<'a> {
 }
 
 impl FusedIterator for AllBoundForwarders<'_> {}
+
+impl AllBoundForwarders<'_> {
+    /// Why the item that is an error is one, as [`BoundImports::failure`] or [`BoundForwarders::failure`] says it.
+    pub fn failure(&self) -> Option<Failure> {
+        self.imports.failure().or_else(|| self.entries.failure())
+    }
+}
 
 impl<'a> Image<'a> {
     /// The DLLs that the image is bound to; none where the directory is absent.

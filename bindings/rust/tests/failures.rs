@@ -56,7 +56,10 @@ fn walk(image: &Image<'_>) -> usize {
         errors += errors_of!(functions);
     }
     if let Ok(imports) = image.bound_imports() {
-        errors += errors_of!(imports);
+        errors += errors_of!(imports, import => errors_of!(import.forwarders()));
+    }
+    if let Ok(forwarders) = image.bound_forwarders() {
+        errors += errors_of!(forwarders);
     }
     if let Ok(Some(leaves)) = image.resource_leaves() {
         errors += errors_of!(leaves);
@@ -133,6 +136,23 @@ fn failures_of_imports_have_rvas() {
     // The same of the walk over the imports of all, whose first items are those of the DLL before it.
     let mut imports = image.imports().unwrap();
     assert_eq!((imports.by_ref().filter(Result::is_ok).count(), imports.failure()), (2, Some(failure)));
+}
+
+#[test]
+fn failures_of_forwarders_have_the_offset_of_the_name() {
+    let mut bytes = with_bound_imports();
+    let image = Image::parse(&bytes, Mode::Strict).unwrap();
+    let start = image.info().directory(DirectoryIndex::BoundImport).unwrap().virtual_address as usize;
+    // The name of the first forwarder, whose entry follows the 8 bytes of its DLL, is past the directory's 64 bytes.
+    put(&mut bytes, start + 8 + 4, 0x50);
+    let image = Image::parse(&bytes, Mode::Strict).unwrap();
+    let mut forwarders = image.bound_imports().unwrap().next().unwrap().unwrap().forwarders();
+    assert_eq!(forwarders.failure(), None);
+    assert_eq!(last(forwarders.by_ref()), Some(Error::DIRECTORY_BOUND_IMPORT_NAME));
+    let failure = forwarders.failure().unwrap();
+    assert_eq!((failure.error, failure.offset, failure.value), (Error::DIRECTORY_BOUND_IMPORT_NAME, 0x50, None));
+    let mut all = image.bound_forwarders().unwrap();
+    assert_eq!((last(all.by_ref()), all.failure()), (Some(failure.error), Some(failure)));
 }
 
 #[test]

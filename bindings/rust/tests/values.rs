@@ -4,9 +4,10 @@
 use crate::facts::as_loaded;
 use crate::made::*;
 use pe_c::{
-    Arm64Code, Arm64Operation, Arm64Unwinding, Code, DamagedModule, DebugRecords, DirectoryIndex, Error, Failure,
-    Frames, FunctionName, Handler, Image, Layout, MemoryList, MemoryPiece, Mode, Module, NameSource, Operation,
-    Registers, Repro, ResourceItem, ResourceName, Text, VersionName, Way,
+    Arm64Code, Arm64Operation, Arm64Unwinding, BoundForwarders, Code, Coff, DamagedModule, DebugRecords,
+    DirectoryIndex, Dump, Error, Exports, Failure, Frames, FunctionName, Handler, Image, Layout, Libraries, MemoryList,
+    MemoryPiece, Mode, Module, NameSource, Operation, Pdb, Registers, Repro, ResourceEditor, ResourceItem,
+    ResourceLeaves, ResourceName, Signature, Symbolizer, Te, Text, VersionBlocks, VersionName, Way,
 };
 
 fn strict(bytes: &[u8]) -> Image<'_> {
@@ -38,6 +39,16 @@ fn records_by_hand() {
         DebugRecords::default(),
         DebugRecords { symbol_key: Ok(None), repro: Ok(None), pogo: Ok(None), .. }
     ));
+}
+
+/// What is read goes to other threads, and they share it, but for what names RVAs and keeps what it reads.
+#[test]
+fn threads_share_what_is_read() {
+    fn shared<T: Send + Sync>() {}
+    fn sent<T: Send>() {}
+    shared::<(Image<'_>, Te<'_>, Coff<'_>, Dump<'_>, Pdb<'_>, Signature<'_>, ResourceEditor<'_>)>();
+    shared::<(Exports<'_, '_>, Libraries<'_, '_>, ResourceLeaves<'_, '_>, BoundForwarders<'_>, VersionBlocks<'_>)>();
+    sent::<Symbolizer<'_>>();
 }
 
 /// Errors have the numbers of the header.

@@ -53,6 +53,10 @@ class Machine(enum.IntEnum):
         member._name_, member._value_ = f"0x{value:x}", value
         return member
 
+    def __reduce_ex__(self, protocol: object) -> tuple[type[Machine], tuple[int]]:
+        # Python 3.11 has the name there, which a number without one does not have.
+        return Machine, (int(self),)
+
 
 def four(high: int, low: int) -> tuple[int, int, int, int]:
     """The numbers of a version."""

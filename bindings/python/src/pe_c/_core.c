@@ -668,7 +668,9 @@ METHOD(symbols)
     Chunk chunk = {NULL, NULL, 0, 0};
     walk.strings = self->strings;
     rows = rows_of(self, &budget);
-    uint32_t result = pe_c_coff_symbols(BYTES, &self->coff, &walk.symbols), strings = PE_C_NOTHING;
+    /* They are no part of an image as loaded, which has something else at their file offset. */
+    uint32_t result = self->info.mode & PE_C_MAPPED ? PE_C_NOTHING : pe_c_coff_symbols(BYTES, &self->coff, &walk.symbols);
+    uint32_t strings = PE_C_NOTHING;
     if (result == PE_C_DONE && self->is_exact)
         strings = pe_c_coff_strings(BYTES, &self->coff, &walk.strings);
     starts(&rows, strings == PE_C_NOTHING ? result : strings);
@@ -1422,12 +1424,25 @@ static PyObject *memory_of(Image *self, PyObject *data)
     return readonly;
 }
 
+/* Whether others may write what an object shows, as what a memoryview is of that cannot be written itself. */
+static int may_change(PyObject *data, const Py_buffer *view)
+{
+    PyObject *shown = view->readonly && PyMemoryView_Check(data) ? PyObject_GetAttrString(data, "obj") : NULL;
+    Py_buffer of;
+    int is_writable = !view->readonly || (shown && shown != Py_None && PyObject_GetBuffer(shown, &of, PyBUF_WRITABLE) == 0);
+    if (view->readonly && is_writable)
+        PyBuffer_Release(&of);
+    Py_XDECREF(shown);
+    PyErr_Clear();
+    return is_writable;
+}
+
 /* Holds the buffer of the object, or a copy of one that others may write while a call reads. */
 static int holds(Image *self, PyObject *data, int is_copied)
 {
     if (PyObject_GetBuffer(data, &self->view, PyBUF_SIMPLE) < 0)
         return 0;
-    if (!self->view.readonly && is_copied) {
+    if (is_copied && may_change(data, &self->view)) {
         data = PyBytes_FromStringAndSize(self->view.buf, self->view.len);
         PyBuffer_Release(&self->view);
         if (!data || PyObject_GetBuffer(data, &self->view, PyBUF_SIMPLE) < 0) {

@@ -31,6 +31,8 @@ MOST_IMAGES, MOST_SECTIONS = 4096, 1 << 20
 # that are sorted, and so many bytes of names of functions.
 MOST_FRAMES, PACKED_A_FRAME, MODULES_A_FRAME, PIECES_A_FRAME, SECTIONS_A_FRAME = 1_000_000, 5, 100, 200, 100
 NAMES_A_FRAME, BYTES_A_FRAME = 100, 1024
+# How many frames one stack has.
+MOST_IN_A_WALK = 1 << 14
 # How often the bytes of a dump may be read for images. Those of modules that do not overlap are all read once.
 MOST_READINGS = 2
 # How many bytes of a record that names a PDB are read.
@@ -84,7 +86,9 @@ def walk(registers: Registers | Arm64Registers, modules: typing.Iterable[AnyModu
     and a length. At most `most` frames, 16,384 or fewer. An address is that of the first module that has it. The images name the
     functions of frames.
 
-    Raises Error where a piece is not inside the memory."""
+    Raises Error where a piece is not inside the memory, and TypeError of what are no registers, as a context that has them."""
+    if not isinstance(registers, (Registers, Arm64Registers)):
+        raise TypeError(f"registers are pe_c.Registers or pe_c.Arm64Registers, and not {type(registers).__name__}")
     core, _ = _core.image(memory, 0, True, BYTES, False)
     assert core is not None
     places, packed = b"".join(struct.pack("<3Q", *it) for it in pieces), _packed(list(modules))
@@ -136,7 +140,9 @@ def _walk(core: _core.Image, registers: Registers | Arm64Registers, modules: _Pa
           path: str | None) -> Stack:
     numbers = [it for field in registers for it in (field if isinstance(field, tuple) else (field,))]
     call: Any = core.frames if isinstance(registers, Registers) else core.arm64_frames
-    rows, number, is_limited = call(*modules[:3], places, struct.pack(f"<{len(numbers)}Q", *numbers), max(most, 0))
+    # A number of more than 32 bits is another one there.
+    most = min(max(most, 0), MOST_IN_A_WALK)
+    rows, number, is_limited = call(*modules[:3], places, struct.pack(f"<{len(numbers)}Q", *numbers), most)
     if number or not rows:
         raise error_of(number or Kind.SHORT, "stack walk", path)
     frames: Part[AnyFrame] = Part(rows[:-1])
@@ -246,14 +252,17 @@ class Dump(Reader):
     def warnings(self) -> tuple[Error, ...]:
         """What of the dump is damaged, an error a stream; how much memory it says it has that is not in the file; and the lists that
         are limited, as Kind.ROOM."""
+        return self._once("warnings", self._read_warnings)
+
+    def _read_warnings(self) -> tuple[Error, ...]:
         parts = {name: self._part(f"dump_{name}") for name in LISTS}
         found = [it.error for it in parts.values() if it.error]
         found += [error_of(number, name, self.path) for name in RECORDS if (number := self._kept_answer(f"dump_{name}")[1])]
-        if self._lost:
-            found.append(Error(Kind.SHORT, f"{self._lost} bytes are lost: the file is truncated", "memory", self.path))
+        lost = self._lost()
+        if lost:
+            found.append(Error(Kind.SHORT, f"{lost} bytes are lost: the file is truncated", "memory", self.path))
         return tuple(found + [Error(Kind.ROOM, LIMITED, name, self.path) for name, it in parts.items() if it.is_limited])
 
-    @property
     def _lost(self) -> int:
         """How many bytes of the memory of the lists, and of the stacks of threads that these lack, the file does not have."""
         listed = [*self.memory_list, *self.memory64]
@@ -281,7 +290,8 @@ class Dump(Reader):
         """The memory: of each piece its address, its offset in the dump, and its length. They ascend and do not overlap: an address is
         that of the first piece that has it, of `memory_list`, then of `memory64`, then of the stacks of threads that neither has; pieces
         that follow one another, in the file too, are one."""
-        return tuple((start, offset, length) for start, offset, length in struct.iter_unpack("<3Q", self._runs))
+        return self._once("pieces", lambda: tuple(
+            (start, offset, length) for start, offset, length in struct.iter_unpack("<3Q", self._runs)))
 
     @property
     def _runs(self) -> bytes:
@@ -483,7 +493,7 @@ class Dump(Reader):
         """A walk, as long as all walks of the dump have not cost too much."""
         tests = len(packed.images) // MODULES_A_FRAME + len(self._runs) // 24 // PIECES_A_FRAME
         self._left -= tests
-        wanted, most = min(max(most, 0), 1 << 14), max(min(most, self._left // cost), 0)
+        wanted, most = min(max(most, 0), MOST_IN_A_WALK), max(min(most, self._left // cost), 0)
         if most < wanted and most == 0:
             return self._no_frames()
         walked = _walk(self._core, registers, packed, self._runs, most, self.path)

@@ -38,10 +38,12 @@ class ResourceEditor:
     """
 
     def __init__(self, image: Image) -> None:
-        """Raises Error where not all resources can be read: those that are left out would be lost."""
+        """Raises Error where not all resources can be read: those that are left out would be lost. The image is that of a file: what is
+        written of one as loaded is no file."""
         self._image = image
-        core, _ = _core.image(image.memory, image.headers.mode, False, IMAGE, True)
-        assert core is not None
+        core, number = _core.image(image.memory, image.headers.mode, False, IMAGE, True)
+        if core is None:
+            raise error_of(number, "headers", image.path)
         rows, number, is_limited = core.resources()
         self.resources: dict[Place, tuple[int, bytes]] = {}
         # In a hostile image many resources may share one content; so many bytes of them are not written.
@@ -63,7 +65,9 @@ class ResourceEditor:
 
     def set(self, type: Key, name: Key, language: int, content: bytes) -> None:
         """Puts a resource in place of the one that is there, or beside the others. An id is RT_ of winuser.h; a name stands as it is given,
-        and Windows finds names in upper case alone. Raises TypeError where the content is no bytes."""
+        and Windows finds names in upper case alone. Raises TypeError where the content is no bytes, and of a key that is neither."""
+        if not isinstance(language, int) or not all(isinstance(it, (int, str)) for it in (type, name)):
+            raise TypeError(f"types and names are ids or texts and languages are ids, and not {type!r}, {name!r}, {language!r}")
         code_page = self.resources.get((type, name, language), (0, b""))[0]
         # Of a number bytes() alone would make as many zeros.
         self.resources[type, name, language] = (code_page, bytes(memoryview(content)))

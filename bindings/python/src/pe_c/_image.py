@@ -92,9 +92,9 @@ class Unwind(typing.NamedTuple):
 class Image(Reader):
     """A PE image over the bytes of a file: bytes, a bytearray, an mmap, a memoryview or anything else with a buffer.
 
-    It holds the buffer, and copies one that may be written; with copy=False it holds that too, and nothing may write
-    to it while a call reads. Raises Error where the headers are refused, and TypeError or BufferError for what is no
-    buffer.
+    It holds the buffer, and copies one that may be written, as what a read-only memoryview is of may be; with copy=False it holds
+    that too, and nothing may write to it while a call reads, nor to the file of an mmap that is held. Raises Error where the headers
+    are refused, and TypeError or BufferError for what is no buffer.
 
     After that a part that is a list never raises: what ended it is its `error`. A part that is one record, or None
     without one, raises Error where it is damaged. After close() each raises ValueError. Contents, as those of
@@ -188,7 +188,7 @@ class Image(Reader):
 
     @property
     def certificates(self) -> Part[Certificate]:
-        """The attribute certificates, which hold Authenticode signatures. They are not verified."""
+        """The attribute certificates, which hold Authenticode signatures; none of an image as loaded. They are not verified."""
         return self._part("certificates")
 
     @property
@@ -210,7 +210,7 @@ class Image(Reader):
 
     @property
     def symbols(self) -> Part[Symbol]:
-        """The COFF symbols, without auxiliary records, as images of mingw-w64 and Go have them."""
+        """The COFF symbols, without auxiliary records, as images of mingw-w64 and Go have them; none of an image as loaded."""
         return self._part("symbols")
 
     @property
@@ -227,8 +227,8 @@ class Image(Reader):
                 at = self.headers.directories[IMAGE_DIRECTORY_ENTRY_BASERELOC]
                 offset = self.offset_of(at.virtual_address)
                 content = b"" if offset is None else self.memory[offset:offset + at.size]
-                # One that the file does not have may be zeros, or not.
-                part.error = part.error if len(content) < at.size or any(content) else None
+                # One that the file does not have may be zeros, or not, and one of no bytes is none of zeros.
+                part.error = part.error if not content or len(content) < at.size or any(content) else None
             return part
         return self._once("relocations", read)
 
@@ -417,19 +417,26 @@ class Image(Reader):
             raise error_of(Kind.UNMAPPED, f"RVA 0x{rva:x}", self.path)
         return self.memory[offset:offset + max(length, 0)]
 
+    def _place(self, section: Section) -> tuple[int, int]:
+        """Where a section is, and how many bytes it has there."""
+        if self.headers.mode & Mode.MAPPED:
+            return section.virtual_address, section.virtual_size or section.size_of_raw_data
+        return section.pointer_to_raw_data, section.size_of_raw_data
+
     def data(self, section: Section) -> memoryview:
-        """A section's raw data: `size_of_raw_data` bytes from `pointer_to_raw_data` on, as far as the file has them."""
-        start = section.pointer_to_raw_data
-        return self.memory[start:start + section.size_of_raw_data]
+        """A section's raw data: `size_of_raw_data` bytes from `pointer_to_raw_data` on, as far as the file has them. In an image as loaded
+        they are at its RVA, as many as its virtual size says, or its raw size where that is 0."""
+        start, size = self._place(section)
+        return self.memory[start:start + size]
 
     def entropy(self, section: Section | None = None) -> float:
-        """Shannon's entropy of a section's raw data, or of the file, in bits a byte, 0.0 to 8.0."""
-        place = (section.pointer_to_raw_data, section.size_of_raw_data) if section else (0, len(self.memory))
+        """Shannon's entropy of a section's `data`, or of all bytes, in bits a byte, 0.0 to 8.0."""
+        place = self._place(section) if section else (0, len(self.memory))
         return entropy_of(self._asked("entropy", "histogram", *place))
 
     @property
     def entropies(self) -> tuple[float | None, ...]:
-        """The entropy of each section's raw data, in bits a byte; None after as many bytes as four times those of the file: the
+        """The entropy of each section's `data`, in bits a byte; None after as many bytes as four times those of the file: the
         sections of a hostile image may all be the same bytes."""
         def read() -> tuple[float | None, ...]:
             found: list[float | None] = []
@@ -518,7 +525,8 @@ class Image(Reader):
         return state.hexdigest()
 
     def digest(self, algorithm: str = "sha256") -> str:
-        """The Authenticode digest: what a signature of this image covers. Raises Error without an optional header."""
+        """The Authenticode digest: what a signature of this image covers. Bytes as loaded are taken for those of a file, and have another.
+        Raises Error without an optional header."""
         *ranges, zeros = self._asked("digest", "digest_ranges")
         state = hashlib.new(algorithm)
         for it in ranges:
@@ -527,8 +535,8 @@ class Image(Reader):
         return state.hexdigest()
 
     def right_checksum(self) -> Checksum:
-        """The checksum that the image should have, and the file offset of its field. Raises Error without an optional
-        header."""
+        """The checksum that the image should have, and the file offset of its field. Bytes as loaded are taken for those of a file. Raises
+        Error without an optional header."""
         row: Checksum = self._asked("checksum", "checksum")
         return row
 
@@ -537,21 +545,24 @@ class Image(Reader):
     def map(self, base: int | None = None, *, most: int = 0x10000000) -> bytes | None:
         """The image as a loader lays it out, as many bytes as size_of_image says: the headers, the data of each section at its RVA,
         zeros elsewhere. With a base it is relocated to that: None where it is another than the image's own and there are no base
-        relocations. Raises Error: Kind.ROOM where that is more than `most` bytes, since a short file may say 4 GB."""
+        relocations. Raises Error: Kind.ROOM where that is more than `most` bytes, since a short file may say 4 GB; and ValueError of a base
+        that has more bits than the addresses of the image."""
         if self.headers.size_of_image > most:
             raise error_of(Kind.ROOM, f"map of {self.headers.size_of_image} bytes", self.path)
+        if base is not None and not 0 <= base < 1 << (self.headers.width or 64):
+            raise ValueError(f"{base:#x} is no base of an image with addresses of {self.headers.width} bits")
         difference = 0 if base is None else base - self.headers.base
         mapped: bytes | None = self._asked("map", "mapped", difference)
         return mapped
 
     def attach(self, certificate: bytes, *, in_place: bool = False) -> bytes:
-        """The file with an entry of a certificate table (WIN_CERTIFICATE) after its others, or in their place. Raises
-        Error."""
+        """The file with an entry of a certificate table (WIN_CERTIFICATE) after its others, or in their place. Bytes as loaded are taken for
+        those of a file. Raises Error."""
         file: bytes = self._asked("attach", "attach", certificate, int(in_place))
         return file
 
     def detach(self) -> bytes:
-        """The file without its certificates. Raises Error."""
+        """The file without its certificates. Bytes as loaded are taken for those of a file. Raises Error."""
         file: bytes = self._asked("detach", "detach")
         return file
 
@@ -600,8 +611,7 @@ class Image(Reader):
     def _left_out(self) -> list[ImageWarning]:
         """Sections that the end of the file cuts, and names of exports that are in no row."""
         def is_cut(it: Section) -> bool:
-            start, size = ((it.virtual_address, it.virtual_size) if self.headers.mode & Mode.MAPPED else
-                           (it.pointer_to_raw_data, it.size_of_raw_data))
+            start, size = self._place(it)
             return bool(size) and start + size > len(self.memory)
         cut, exports = sum(map(is_cut, self.sections)), self.exports
         directory = None if exports.error or exports.is_limited else self._kept_answer("export_directory")[0]
@@ -630,7 +640,7 @@ class Image(Reader):
     def to_dict(self) -> dict[str, Any]:
         """What the image is in values that json takes. Never raises Error: `warnings` has what is damaged or limited."""
         answers = {name: self._kept_answer(name)[0] for name in ("rich_header", *RECORDS)}
-        digest = self.digest() if self.headers.width else None
+        digest = self.digest() if self.headers.width and not self.headers.mode & Mode.MAPPED else None
         left, limit = [self._limit()], self._limit()
         return {"path": self.path, "size": len(self.memory), "headers": plain(self.headers, left),
                 **{name: self._part(name).to_dict(limit) for name in LISTS}, "entropies": list(self.entropies),

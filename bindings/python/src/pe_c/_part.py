@@ -35,6 +35,13 @@ class Error(ValueError):
         """The number as a constant; Kind.OTHER for one that this version does not know."""
         return Kind(self.number)
 
+    # A value, as the warning is that it stands in.
+    def __eq__(self, other: object) -> bool:
+        return type(other) is type(self) and isinstance(other, Error) and self.args == other.args
+
+    def __hash__(self) -> int:
+        return hash(self.args)
+
     def __str__(self) -> str:
         return as_line(self.path, self.part, self.text)
 
@@ -86,6 +93,11 @@ class Part(tuple[T, ...]):
 
     error: Error | None = None
     is_limited: bool = False
+
+    def __repr__(self) -> str:
+        """That of the tuple, and what ended it."""
+        said = [f"error={self.error!r}"] * bool(self.error) + ["is_limited=True"] * self.is_limited
+        return f"Part({', '.join([super().__repr__(), *said])})" if said else super().__repr__()
 
     def check(self) -> Part[T]:
         """The rows, if they are all there. Raises the error that ended them, and Kind.ROOM where they are limited."""

@@ -114,6 +114,7 @@ class _Functions:
         self._ids: tuple[bytes, bytes] | None = None
         self.ids_error = 0
         self.inlined_errors: dict[int, int] = {}
+        self._record_errors: dict[int, int] = {}
         left = len(pdb.memory)
         for number, module in enumerate(pdb.modules):
             if module.stream is None:
@@ -168,6 +169,13 @@ class _Functions:
         except Error as error:
             self.ids_error = error.number
             return b"", b""
+
+    def error_of_records(self, number: int) -> int:
+        """Why the records of symbols of a module are refused, or the first of them that is, which are read once."""
+        if number not in self._record_errors:
+            rows, refused, _ = self.modules[number].all()
+            self._record_errors[number] = refused or next((it.error for it in rows or () if it.error), 0)
+        return self._record_errors[number]
 
     def lines(self, number: int) -> _Lines:
         """The lines of a module whose procedures were read, which are read when they are asked for."""
@@ -315,9 +323,10 @@ class Pdb(Reader):
     @property
     def publics(self) -> Part[PdbSymbol]:
         """The public symbols, in the order of their records: functions and others."""
-        publics = self._publics
-        answer = ((), publics.number, False) if isinstance(publics, Error) else publics.all()
-        return self._once("publics", lambda: self._part_of(answer, "public symbols"))
+        def read() -> Part[PdbSymbol]:
+            publics = self._publics
+            return self._part_of(((), publics.number, False) if isinstance(publics, Error) else publics.all(), "public symbols")
+        return self._once("publics", read)
 
     def _symbols_of(self, module: PdbModule) -> tuple[tuple[PdbSymbol, ...] | None, int, bool]:
         if module.stream is None:
@@ -438,8 +447,7 @@ class Pdb(Reader):
                 errors.extend([error_of(refused, f"{what} of {name}", self.path)] if refused else [])
             add(known.refused.get(number, 0), "symbols")
             if number in known.modules:
-                rows, refused, _ = known.modules[number].all()
-                add(refused or next((it.error for it in rows or () if it.error), 0), "symbols")
+                add(known.error_of_records(number), "symbols")
                 add(known.lines(number).error, "lines")
                 add(known.inlined_errors.get(number, 0), "inlined functions")
         return errors

@@ -78,8 +78,10 @@ class Reader:
         """The same file once more, over the same bytes: either is closed without the other."""
         made = type(self).__new__(type(self))
         kind, mode = self._kind_and_mode
-        core, _ = _core.image(self.memory, mode, False, kind, False)
-        assert core is not None
+        core, number = _core.image(self.memory, mode, False, kind, False)
+        if core is None:
+            # The bytes are others than they were, as of an image that holds what its caller writes to.
+            raise error_of(number, "headers", self.path)
         made.__dict__.update({**self.__dict__, "_kept": {}, "_core": core})
         return made
 

@@ -186,6 +186,7 @@ class Signer(_Inside):
         self.row: SignerInfo = reader._asked("signer", "signer", at.offset, at.length)
         self.digest_algorithm = algorithm_of(self.row.digest_algorithm.oid)
         self.signature_algorithm = algorithm_of(self.row.signature_algorithm.oid)
+        self._kept: dict[KnownOid, Part[Any]] = {}
 
     @property
     def issuer(self) -> Name:
@@ -249,7 +250,11 @@ class Signer(_Inside):
         return text_of(0x16, it.more_info) if it and it.more_info_tag == 0x80 else None
 
     def _made(self, kind: KnownOid, make: typing.Callable[[Range], T]) -> Part[T]:
-        return _all_of(self._values(kind), make)
+        """What is made of the values of a kind, once."""
+        if kind not in self._kept:
+            self._kept[kind] = _all_of(self._values(kind), make)
+        kept: Part[T] = self._kept[kind]
+        return kept
 
     @property
     def counter_signatures(self) -> Part[Signer]:

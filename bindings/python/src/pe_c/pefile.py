@@ -1523,6 +1523,8 @@ class PE:
         relocations. The file's bytes stay as they are. Raises PEFormatError where SizeOfImage is more than max_virtual_address."""
         if self.OPTIONAL_HEADER.SizeOfImage > max_virtual_address:
             raise PEFormatError(f"SizeOfImage is {self.OPTIONAL_HEADER.SizeOfImage:#x}, more than max_virtual_address")
+        if ImageBase is not None and not 0 <= ImageBase < 1 << (64 if self._image.is_64 else 32):
+            raise PEFormatError(f"{ImageBase:#x} is no base of this image")
         try:
             image = self._now()
             mapped = image.map(ImageBase, most=max_virtual_address)
