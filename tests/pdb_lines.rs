@@ -9,11 +9,11 @@ use crate::pdb_symbols::lines_of;
 use crate::pdbs::{all_of, pdb, record_truncated, short};
 use pe_core::RangeEntry;
 use pe_pdb::{
-    CodeLine, Contribution, DBI_STREAM, DEBUG_S_FILECHKSMS, DEBUG_S_INLINEELINES, Dbi,
-    FileChecksum, FunctionId, ID_STREAM, INFO_STREAM, InlineRow, InlineRows, InlineSite,
-    InlineeLine, LF_FUNC_ID, LF_STRING_ID, LineEntry, LineIndex, ModuleIndex, ModuleRange, Msf,
-    NAMES_STREAM, Names, PdbError, S_INLINESITE2, SectionContributions, SectionHeaders,
-    Subsections, SymbolRecord, TypeRecords, named_stream, string_id,
+    CodeLine, Contribution, DBI_STREAM, DEBUG_S_FILECHKSMS, Dbi, FileChecksum, FunctionId,
+    ID_STREAM, INFO_STREAM, InlineRow, InlineRows, InlineSite, InlineeLine, LF_FUNC_ID,
+    LF_STRING_ID, LineEntry, LineIndex, ModuleIndex, ModuleRange, Msf, NAMES_STREAM, Names,
+    PdbError, S_INLINESITE2, SectionContributions, SectionHeaders, Subsections, SymbolRecord,
+    TypeRecords, named_stream, string_id,
 };
 use std::alloc::{AllocError, Global};
 use std::test::Fail;
@@ -21,27 +21,6 @@ use std::test::Fail;
 /// The file of lld-link with inlined functions.
 fn inlined(alloc: Global) -> Result<Vec<u8>, AllocError> {
     image(alloc, pdb_inlined_bytes::LENGTH, &pdb_inlined_bytes::PIECES)
-}
-
-/// The name of a source file, by its offset in the files of a module.
-fn file_name(alloc: Global, msf: &Msf<'_>, lines: &[u8], file: u32) -> Result<Vec<u8>, Fail> {
-    let info = all_of(alloc, msf, INFO_STREAM)?;
-    let Some(stream) = named_stream(&info, NAMES_STREAM)? else {
-        return Err(Fail::new("no names"));
-    };
-    let bytes = all_of(alloc, msf, stream)?;
-    let names = Names::parse(&bytes)?;
-    let mut name = Vec::new(alloc);
-    for subsection in Subsections::new(lines) {
-        let subsection = subsection?;
-        if subsection.kind == DEBUG_S_FILECHKSMS {
-            let record = FileChecksum::parse(subsection.content, file as usize)?;
-            for byte in names.name_at(record.name_offset)? {
-                name.push(*byte)?;
-            }
-        }
-    }
-    Ok(name)
 }
 
 #[test]
@@ -308,26 +287,7 @@ fn lines_of_rows_count_from_that_of_the_function(rt: HostRuntime) -> Result<(), 
 }
 
 #[test]
-fn inlined_functions_are_where_pdbutil_says(rt: HostRuntime) -> Result<(), Fail> {
-    let bytes = inlined(rt.alloc())?;
-    let msf = Msf::parse(&bytes)?;
-    let lines = lines_of(rt.alloc(), &msf, 0)?;
-    for subsection in Subsections::new(&lines) {
-        let subsection = subsection?;
-        if subsection.kind != DEBUG_S_INLINEELINES {
-            continue;
-        }
-        for (inlinee, line) in [(0x1000, 6), (0x1001, 1)] {
-            let Some(found) = InlineeLine::find(subsection.content, inlinee)? else {
-                return Err(Fail::new("no line"));
-            };
-            assert_eq!(rt; (found.inlinee, found.line), (inlinee, line));
-            let name = file_name(rt.alloc(), &msf, &lines, found.file)?;
-            assert!(rt; name.as_slice() == b"c.h".as_slice());
-        }
-        let own = InlineeLine::find(subsection.content, 0x1002)?;
-        assert!(rt; own.is_none());
-    }
+fn lines_of_inlined_functions_by_hand(rt: HostRuntime) -> Result<(), Fail> {
     // With other files: one of the first function, none of the second, and a third that is truncated.
     let mut other = vec![in rt.alloc(); 0u8; 4 + 20 + 16 + 16]?;
     put(

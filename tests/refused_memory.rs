@@ -1,15 +1,17 @@
-//! Whole images, TE images, objects and the ranges of minidumps where one request for memory is refused.
+//! Whole images, TE images, objects, the ranges of minidumps and texts of versions where one request for memory is refused.
 
 use crate::images::{
     headers_alone, object, te, with_debug, with_exports, with_imports, with_resources,
 };
 use crate::minidumps::{range, with_stream};
 use crate::refusing::Refusing;
+use crate::resources::{push_string, resources, version_alone};
 use crate::whole_images::in_mode;
 use pe_image::{Coff, Error, Limits, PE, ParseMode, Reason, Result, TE};
 use pe_minidump::{
     AddressIndex, AddressRange, Dump, MemoryDescriptor, Module, Table, module_ranges,
 };
+use pe_resource::{ResourceString, StringFileInfo, VersionField};
 use std::alloc::{Allocator, Global};
 use std::process::Abort;
 use std::test::Fail;
@@ -42,10 +44,16 @@ enum Call<'a> {
     Modules(Table<'a, Module>),
     /// The addresses of pieces of memory, of the dump in the bytes.
     Memory(Dump<'a>, Table<'a, MemoryDescriptor>),
+    /// The texts of a key and of its value.
+    Texts(ResourceString<'a>),
+    /// A text of version information.
+    Comments(StringFileInfo<'a>),
+    /// The text of a version number.
+    Number(u32, u32),
 }
 
 impl Call<'_> {
-    /// How many things the call returns: all that it puts into lists, and the resources.
+    /// How many things the call returns: all that it puts into lists, the resources, and the bytes of a text.
     fn count<A: Allocator + Copy + Drop>(self, alloc: A, bytes: &[u8]) -> Result<usize> {
         Ok(match self {
             Call::Image(mode) => things_of(PE::parse_with_opts(alloc, bytes, &in_mode(mode))?),
@@ -69,6 +77,12 @@ impl Call<'_> {
             }
             Call::Modules(list) => module_ranges(alloc, &list)?.len(),
             Call::Memory(dump, list) => dump.memory_ranges(alloc, &list)?.len(),
+            Call::Texts(string) => {
+                let key = string.key_string(alloc)?.map_or(0, |text| text.len());
+                key + string.value_string(alloc)?.map_or(0, |text| text.len())
+            }
+            Call::Comments(info) => info.comments(alloc)?.map_or(0, |text| text.len()),
+            Call::Number(ms, ls) => VersionField::from_ms_ls(ms, ls).to_string(alloc)?.len(),
         })
     }
 }
@@ -199,5 +213,28 @@ fn ranges_of_minidumps(rt: HostRuntime) -> std::result::Result<(), Fail> {
         let refused = refuse_in_turn(&rt, alloc, Call::Memory(dump, list), &bytes, things)?;
         assert_eq!(rt; refused > 0, count > 0, "{count} pieces of memory");
     }
+    Ok(())
+}
+
+/// A key and a value ask for memory each.
+#[test]
+fn texts_of_versions(rt: HostRuntime) -> std::result::Result<(), Fail> {
+    let alloc = rt.alloc();
+    let mut bytes = Vec::new(alloc);
+    let key = "a key of some thirty letters..";
+    push_string(&mut bytes, key, "a value of some thirty letters")?;
+    let mut offset = 0;
+    let string = ResourceString::parse(&bytes, &mut offset)?.ok_or("no string")?;
+    assert!(rt; refuse_in_turn(&rt, alloc, Call::Texts(string), &[], 60)? >= 2);
+    let mut strings = Vec::new(alloc);
+    let comments = "some text of a few words, long enough to grow";
+    push_string(&mut strings, "Comments", comments)?;
+    let bytes = version_alone(alloc, strings.as_slice())?;
+    let size = u32::try_from(bytes.len())?;
+    let version = resources(rt, &bytes, size, ParseMode::Strict)?.version_info;
+    let info = version.ok_or("no version information")?.string_info;
+    assert!(rt; refuse_in_turn(&rt, alloc, Call::Comments(info), &[], 45)? >= 1);
+    let call = Call::Number(0xFFFF_FFFF, 0xFFFF_FFFF);
+    assert!(rt; refuse_in_turn(&rt, alloc, call, &[], 23)? >= 1);
     Ok(())
 }

@@ -11,7 +11,7 @@ use crate::imports::{image_by, sharing};
 use crate::minidumps::with_stream;
 use crate::plans::{chain, offset_of, plan};
 use crate::refusing::Refusing;
-use crate::resource_strings::EMPTY;
+use crate::resources::EMPTY;
 use crate::sections::counting;
 use pe_core::{
     Export, ExportData, Import, ImportData, ParseOptions, SectionIndex, SectionTable, Strtab,

@@ -1,12 +1,13 @@
 //! Resources: the worked image, its damaged forms in both modes, version fields, and version strings by their names.
 
 use crate::images::{MODES, directory_at, image, reason_in, short, short_in};
+use crate::refusing::Refusing;
 use crate::shared::VERSION_NAMES;
 use linked_list_allocator::LocalHeap;
 use pe_core::{Error, ParseMode, ParseOptions, Reason, Result};
 use pe_resource::{
-    ImageResourceDirectory, RT_MANIFEST, RT_VERSION, ResourceData, ResourceEntry, StringFileInfo,
-    VersionField, VsFixedFileInfo,
+    ImageResourceDirectory, RT_MANIFEST, RT_VERSION, ResourceData, ResourceEntry, ResourceString,
+    ResourceStringIterator, StringFileInfo, VersionField, VsFixedFileInfo,
 };
 use std::alloc::{AllocError, Global};
 use std::test::Fail;
@@ -72,7 +73,7 @@ fn changed(
 }
 
 /// The resources at offset 0 with this size, from a heap that returns nothing.
-fn resources<'a>(
+pub(crate) fn resources<'a>(
     rt: HostRuntime,
     bytes: &'a [u8],
     size: u32,
@@ -328,55 +329,123 @@ fn twelve_names(rt: HostRuntime) -> std::result::Result<(), Fail> {
     Ok(())
 }
 
-/// Each request for memory of a text is refused by some heap, and then the answer is that and nothing else.
+// ---- version strings: one alone, their texts, and the strings of a table against a plain program that collects them
+
 #[test]
-fn each_request_refused(rt: HostRuntime) -> std::result::Result<(), Fail> {
-    let mut strings = Vec::new(rt.alloc());
-    push_string(
-        &mut strings,
-        "Comments",
-        "some text of a few words, long enough to grow",
-    )?;
-    let bytes = version_alone(rt.alloc(), strings.as_slice())?;
-    let size = u32::try_from(bytes.len())?;
-    let data = resources(rt, &bytes, size, ParseMode::Strict)?;
-    let info = data
-        .version_info
-        .ok_or("no version information")?
-        .string_info;
-    let mut done = false;
-    let mut refused = 0u32;
-    for size in [0usize, 16, 32, 48, 64, 96, 128, 192, 256, 384, 512, 1024] {
-        let heap = LocalHeap::new(rt.alloc(), size)?;
-        match info.comments(&heap) {
-            Ok(text) => {
-                done = true;
-                let found = text.ok_or("no text")?;
-                assert_eq!(rt; found.len(), 45);
-            }
-            Err(_) => {
-                assert!(rt; !done, "with {size} bytes");
-                refused = refused.wrapping_add(1);
-            }
-        }
+fn strings_alone(rt: HostRuntime) -> std::result::Result<(), Fail> {
+    let bytes = [0x10, 0, 2, 0, 1, 0, 0x41, 0, 0, 0, 0, 0, 0x42, 0, 0, 0];
+    let mut offset = 0;
+    let string = ResourceString::parse(&bytes, &mut offset)?.ok_or("no string")?;
+    assert_eq!(rt; offset, 16);
+    let found = (string.len, string.value_len, string.text_type);
+    assert_eq!(rt; found, (16, 2, 1));
+    assert!(rt; string.is_text_data() && !string.is_binary_data());
+    assert_eq!(rt; string.value, [0x42, 0, 0, 0].as_slice());
+    assert!(rt;
+        string
+            .key_string(rt.alloc())?
+            .is_some_and(|text| text.as_str() == "A")
+    );
+    assert!(rt;
+        string
+            .value_string(rt.alloc())?
+            .is_some_and(|text| text.as_str() == "B")
+    );
+    let mut long = bytes;
+    long[2] = 0;
+    long[3] = 0x80;
+    let mut offset = 0;
+    let refused = ResourceString::parse(&long, &mut offset);
+    assert!(rt; matches!(refused, Err(Error::Malformed(Reason::ResourceString(0)))));
+    assert_eq!(rt; offset, 0);
+    let odd = [0x0F, 0, 3, 0, 0, 0, 0x41, 0, 0, 0, 0, 0, 1, 2, 3];
+    let mut offset = 0;
+    let string = ResourceString::parse(&odd, &mut offset)?.ok_or("no string")?;
+    assert!(rt; string.is_binary_data() && !string.is_text_data());
+    assert_eq!(rt; string.value, [1, 2, 3].as_slice());
+    let refusing = Refusing::new(rt.alloc(), 0);
+    assert!(rt; string.value_string(&refusing)?.is_none());
+    assert!(rt; !refusing.has_refused());
+    let mut ended = bytes;
+    ended[0] = 0;
+    let mut left = ResourceStringIterator::new(&ended);
+    assert!(rt; left.next().is_none() && left.next().is_none());
+    let mut offset = 0;
+    assert!(rt; ResourceString::parse(&ended, &mut offset)?.is_none());
+    assert_eq!(rt; offset, 2);
+    let mut cut = ResourceStringIterator::new(&[5]);
+    assert!(rt; matches!(cut.next(), Some(Err(Error::Short { at: 0, needed: 2 }))));
+    assert!(rt; cut.next().is_none() && cut.next().is_none());
+    Ok(())
+}
+
+/// Bytes of a length that only a string which is no text may have.
+#[test]
+fn longest_value_of_bytes(rt: HostRuntime) -> std::result::Result<(), Fail> {
+    let mut bytes = Vec::new(rt.alloc());
+    bytes.extend_from_slice(&[1, 0, 0xFF, 0xFF, 0, 0, 0, 0])?;
+    for _ in 0..65535 {
+        bytes.push(7)?;
     }
-    assert!(rt; done && refused >= 4);
-    let mut done = false;
-    let mut refused = 0u32;
-    let version = VersionField::from_ms_ls(0xFFFF_FFFF, 0xFFFF_FFFF);
-    for size in [0usize, 16, 32, 48, 64, 96, 128] {
-        let heap = LocalHeap::new(rt.alloc(), size)?;
-        match version.to_string(&heap) {
-            Ok(text) => {
-                done = true;
-                assert_eq!(rt; text.as_str(), "65535.65535.65535.65535");
-            }
-            Err(_) => {
-                assert!(rt; !done, "with {size} bytes");
-                refused = refused.wrapping_add(1);
-            }
-        }
+    let mut offset = 0;
+    let string = ResourceString::parse(&bytes, &mut offset)?.ok_or("no string")?;
+    assert_eq!(rt; string.value.len(), 65535);
+    assert_eq!(rt; offset, 65543);
+    let mut offset = 0;
+    let mut as_text = bytes;
+    if let Some(slot) = as_text.get_mut(4) {
+        *slot = 1;
     }
-    assert!(rt; done && refused >= 1);
+    let refused = ResourceString::parse(&as_text, &mut offset);
+    assert!(rt; matches!(refused, Err(Error::Malformed(Reason::ResourceString(0)))));
+    Ok(())
+}
+
+/// A string with an empty key and an empty value.
+pub(crate) const EMPTY: [u8; 8] = [8, 0, 0, 0, 1, 0, 0, 0];
+
+/// The text of a value with these bytes, of a string that is read from others.
+fn text_of<'a>(
+    alloc: Global,
+    empty: &'a [u8],
+    value: &'a [u8],
+) -> std::result::Result<Option<String>, Fail> {
+    let mut offset = 0;
+    let mut string = ResourceString::parse(empty, &mut offset)?.ok_or("no string")?;
+    string.value = value;
+    Ok(string.value_string(alloc)?)
+}
+
+#[test]
+fn texts_of_values(rt: HostRuntime) -> std::result::Result<(), Fail> {
+    for (value, want) in [
+        ([].as_slice(), ""),
+        (&[0, 0], ""),
+        (b"H\0e\0l\0l\0o\0", "Hello"),
+        (b"H\0i\0", "Hi"),
+        (b"H\0i\0\0\0e\0x\0", "Hi"),
+        (
+            &[0x53, 0x30, 0x93, 0x30, 0x6B, 0x30, 0x61, 0x30, 0x6F, 0x30],
+            "こんにちは",
+        ),
+        (&[0x3E, 0xD8, 0x80, 0xDD], "🦀"),
+        (&[0x41, 0, 0xE5, 0x65, 0x2C, 0x67, 0x42, 0], "A日本B"),
+        (&[0x41, 0, 0, 0, 0, 0], "A"),
+    ] {
+        let text = text_of(rt.alloc(), &EMPTY, value)?;
+        assert!(rt; text.is_some_and(|found| found.as_str() == want), "{want}");
+    }
+    for value in [[0x48, 0, 0x65].as_slice(), &[0x3D, 0xD8, 0x41, 0]] {
+        assert!(rt; text_of(rt.alloc(), &EMPTY, value)?.is_none());
+    }
+    let mut value = Vec::new(rt.alloc());
+    let mut letters = String::new(rt.alloc());
+    for i in 0..1000u32 {
+        let letter = (0x41 + i % 26) as u8;
+        value.extend_from_slice(&[letter, 0])?;
+        letters.push(char::from(letter))?;
+    }
+    let text = text_of(rt.alloc(), &EMPTY, &value)?;
+    assert!(rt; text.is_some_and(|found| found.as_str() == letters.as_str()));
     Ok(())
 }

@@ -2,8 +2,10 @@
 
 use super::made::*;
 use super::steps::{pe_c_arm64_function_at, pe_c_arm64_table};
-use crate::arm64::functions::{pe_c_arm64_packed_fields, pe_c_find_arm64_function};
-use crate::arm64::records::{pe_c_arm64_unwind_record, pe_c_next_arm64_scope};
+use crate::arm64::{
+    pe_c_arm64_packed_fields, pe_c_arm64_unwind_record, pe_c_find_arm64_function,
+    pe_c_next_arm64_scope,
+};
 use calls_unwind::arm64::functions::Arm64Packed;
 use calls_unwind::arm64::records::{Arm64Record, Arm64Scope};
 use pe_unwind::Arm64RuntimeFunction;

@@ -2,7 +2,7 @@
 
 use super::made::*;
 use super::steps::pe_c_next_arm64_code;
-use crate::arm64::codes::pe_c_arm64_codes;
+use crate::arm64::pe_c_arm64_codes;
 use calls_unwind::arm64::codes::{Arm64Code, Arm64CodeWalk};
 
 /// Range and offset of a walk.

@@ -8,14 +8,14 @@ use super::delay_imports::{
 use super::exports::{UNTOUCHED as NO_EXPORT, from as from_exports};
 use super::imports::{NO_IMPORT, NO_LIBRARY, from_import, from_library};
 use super::made::*;
-use super::plan::plan_from;
 use super::resource_leaves::{NO_LEAF, walk as walk_over_leaves, with_tree};
 use super::steps::{
     pe_c_function_table, pe_c_next_delay_import, pe_c_next_delayed_function, pe_c_next_export,
     pe_c_next_import, pe_c_next_library, pe_c_next_resource_leaf,
 };
+use super::unwinding::plan_from;
 use crate::directories::pe_c_directory_table;
-use crate::unwinding::plan::pe_c_next_record;
+use crate::unwinding::pe_c_next_record;
 use calls_directories::names::exports::Exports;
 use calls_directories::names::imports::{Imports, Libraries};
 use calls_unwind::unwinding::UnwindRecord;

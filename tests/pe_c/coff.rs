@@ -14,10 +14,10 @@
 
 use super::made::*;
 use super::steps::pe_c_symbol;
-use crate::headers::coff::{
-    pe_c_coff, pe_c_coff_strings, pe_c_coff_symbols, pe_c_next_symbol, pe_c_symbol_name,
+use crate::headers::{
+    pe_c_coff, pe_c_coff_strings, pe_c_coff_symbols, pe_c_next_symbol, pe_c_sections,
+    pe_c_symbol_name,
 };
-use crate::headers::image::pe_c_sections;
 use calls_headers::coff::{Symbol, SymbolWalk};
 use calls_headers::headers::CoffFields;
 use pe_images::image as bytes_of;

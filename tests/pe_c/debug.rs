@@ -1,12 +1,16 @@
 //! The debug directory's table, and the records that its entries lead to.
 
+use super::failures::{NONE, Said, told};
 use super::made::*;
-use crate::debug::records::pe_c_codeview;
-use crate::debug::walks::pe_c_next_debug_entry;
-use crate::debug::{pe_c_debug_data, pe_c_debug_record, pe_c_symbol_key};
-use crate::headers::ranges::{RANGE_DEBUG_ENTRIES, pe_c_image_range};
+use super::steps::pe_c_next_pogo_entry;
+use crate::debug::{
+    pe_c_codeview, pe_c_debug_data, pe_c_debug_record, pe_c_next_debug_entry, pe_c_symbol_key,
+};
+use crate::failures::{FAILED_DEBUG_RECORD, FailedItem, pe_c_item_failure};
+use crate::headers::{RANGE_DEBUG_ENTRIES, pe_c_image_range};
 use calls_headers::debug::DebugRecords;
 use calls_headers::debug::records::{Pdb20, Pogo, Repro, SymbolKey};
+use calls_headers::debug::walks::PogoEntry;
 use pe_images::image as bytes_of;
 use pe_records::{ImageDebugDirectory, VCFeatureInfo};
 
@@ -377,5 +381,202 @@ fn managed_records_of_an_image(rt: HostRuntime) -> Result<(), Fail> {
     );
     let found = (of_range(checksum.algorithm), of_range(checksum.checksum));
     assert_eq!(rt; found, ([0xC0, 6], [0xC7, 3]));
+    Ok(())
+}
+
+// ---- the entries of the debug directory and of POGO, one a step
+
+fn step(bytes: &[u8], walk: &mut Range) -> (u32, ImageDebugDirectory, [u64; 2]) {
+    let mut out = filled();
+    let answer = pe_c_next_debug_entry(bytes, walk, &mut out);
+    (answer, out, of_range(*walk))
+}
+
+/// An entry: numbers of 4, 4, 2, 2, 4, 4, 4 and 4 bytes.
+#[test]
+fn debug_entries_in_turn(rt: HostRuntime) {
+    // the bytes from 1 on, at offset 3, and after them an entry of type 20
+    let mut bytes = [0; 59];
+    for i in 0..28u8 {
+        bytes[3 + usize::from(i)] = i + 1;
+    }
+    bytes[43] = 20;
+    let first = ImageDebugDirectory {
+        characteristics: 0x0403_0201,
+        time_date_stamp: 0x0807_0605,
+        major_version: 0x0A09,
+        minor_version: 0x0C0B,
+        data_type: 0x100F_0E0D,
+        size_of_data: 0x1413_1211,
+        address_of_raw_data: 0x1817_1615,
+        pointer_to_raw_data: 0x1C1B_1A19,
+    };
+    let second = ImageDebugDirectory {
+        data_type: 20,
+        ..ImageDebugDirectory::default()
+    };
+    let mut walk = range(3, 56);
+    assert_eq!(rt; step(&bytes, &mut walk), (DONE, first, [31, 28]));
+    assert_eq!(rt; step(&bytes, &mut walk), (DONE, second, [59, 0]));
+    assert_eq!(rt; step(&bytes, &mut walk), (NOTHING, filled(), [59, 0]));
+    // shows: calls_base/src/walks.rt next_entry Short
+    let mut cut = range(3, 55);
+    assert_eq!(rt; step(&bytes, &mut cut), (DONE, first, [31, 27]));
+    assert_eq!(rt; step(&bytes, &mut cut), (SHORT, filled(), OVER));
+}
+
+// ---- POGO
+
+/// What an entry of POGO is before a call that hands out another: its name, address and size.
+const NO_PART: ([u64; 2], [u32; 2]) = (UNTOUCHED, [5, 6]);
+
+fn step_of_pogo(bytes: &[u8], walk: &mut Range) -> (u32, ([u64; 2], [u32; 2]), [u64; 2]) {
+    let mut out = PogoEntry {
+        name: untouched(),
+        rva: 5,
+        size: 6,
+    };
+    let answer = pe_c_next_pogo_entry(bytes, walk, &mut out);
+    let PogoEntry { name, rva, size } = out;
+    (answer, (of_range(name), [rva, size]), of_range(*walk))
+}
+
+/// At offset 1: an address, a size, a name with its zero, and any bytes up to a multiple of four from the entry's start. The
+/// names have 4, 2 and 1 bytes.
+const POGO: &[u8] =
+    b"?\0\x10\0\0\x03\0\0\0.mn\0\0\x20\0\0\x05\0\0\0x\0??\x01\x02\x03\x04\x05\x06\x07\x08\0???";
+
+#[test]
+fn pogo_entries_in_turn(rt: HostRuntime) {
+    let mut walk = range(1, 36);
+    for (name, numbers, after) in [
+        ([9, 4], [0x1000, 3], [13, 24]),
+        ([21, 2], [0x2000, 5], [25, 12]),
+        ([33, 1], [0x0403_0201, 0x0807_0605], [37, 0]),
+    ] {
+        let found = step_of_pogo(POGO, &mut walk);
+        assert_eq!(rt; found, (DONE, (name, numbers), after));
+    }
+    assert_eq!(rt; step_of_pogo(POGO, &mut walk), (NOTHING, NO_PART, [37, 0]));
+}
+
+/// Fewer than eight bytes are no entry; a name has an end, and the bytes up to a multiple of four are there. After a
+/// refusal the walk is over.
+#[test]
+fn pogo_entries_that_are_refused(rt: HostRuntime) {
+    for (length, number) in [(7, SHORT), (8, POGO_NAME), (11, POGO_NAME)] {
+        // after the first entry, the second, cut after so many bytes
+        let mut walk = range(1, 12 + length);
+        let first = (DONE, ([9, 4], [0x1000, 3]), [13, length]);
+        assert_eq!(rt; step_of_pogo(POGO, &mut walk), first);
+        let refused = (number, NO_PART, OVER);
+        assert_eq!(rt; step_of_pogo(POGO, &mut walk), refused, "of {length} bytes");
+    }
+}
+
+// ---- why debug records are refused: the result of the call that reads each, and the numbers of its error
+
+/// The record of so many bytes at a file offset, read as one of a kind.
+fn said(bytes: &[u8], mode: u32, record: (u32, u32), kind: u32) -> Said {
+    let entry = ImageDebugDirectory {
+        characteristics: 0,
+        time_date_stamp: 0,
+        major_version: 0,
+        minor_version: 0,
+        data_type: 77,
+        size_of_data: record.1,
+        address_of_raw_data: 0x1234,
+        pointer_to_raw_data: record.0,
+    };
+    let item = FailedItem {
+        entry,
+        number: mode,
+        record: kind,
+        ..filled()
+    };
+    let mut out = NO_FAILURE;
+    let answer = pe_c_item_failure(bytes, FAILED_DEBUG_RECORD, &item, &mut out);
+    told(answer, &out)
+}
+
+/// The first error of each kind at the end of 96 bytes, at 50h, of which 16 are there.
+#[test]
+fn truncated(rt: HostRuntime) -> Result<(), Fail> {
+    let bytes = bytes_of(
+        rt.alloc(),
+        96,
+        &[
+            (0x20, b"RSDS"),
+            (0x4E, b"RSDS"),
+            (0x56, b"NB10"),
+            (0x5D, b"MPD"),
+        ],
+    )?;
+    for (kind, record, wanted) in [
+        // A record of PDB 7.0 has 24 bytes: its signature is there, and the 20 after it are not.
+        (0, (0x4E, 24), (SHORT, [0x52, 20, 0])),
+        (0, (0x5E, 24), (SHORT, [0x5E, 4, 0])),
+        // One of PDB 2.0 has 16.
+        (1, (0x56, 16), (SHORT, [0x5A, 12, 0])),
+        (1, (0x60, 16), (SHORT, [0x60, 4, 0])),
+        // Five counts of VC features, whatever the size is.
+        (2, (0x4D, 0), (SHORT, [0x4D, 20, 0])),
+        (3, (0x5D, 4), (SHORT, [0x5D, 4, 0])),
+        // The length of a hash, the signatures of POGO and of a portable PDB with its size.
+        (4, (0x5D, 36), (SHORT, [0x5D, 4, 0])),
+        (5, (0x5D, 36), (SHORT, [0x5D, 4, 0])),
+        (6, (0x5D, 8), (SHORT, [0x5D, 8, 0])),
+        // What follows a header, as many bytes as the entry says.
+        (0, (0x20, 65), (DEBUG_DATA, [0, 65, 0])),
+        (7, (0x20, 65), (DEBUG_DATA, [0, 65, 0])),
+    ] {
+        let found = said(&bytes, STRICT, record, kind);
+        assert_eq!(rt; found, (DONE, wanted, 0), "{kind} {record:?}");
+    }
+    assert_eq!(rt; said(&bytes, STRICT, (0x20, 64), 0), NONE);
+    Ok(())
+}
+
+/// Sizes that are too small, numbers that are wrong, and a length that a record states.
+#[test]
+fn sizes_and_signatures(rt: HostRuntime) -> Result<(), Fail> {
+    let bytes = bytes_of(
+        rt.alloc(),
+        96,
+        &[
+            (0x20, b"RSDS"),
+            (0x30, b"LTCG"),
+            (0x34, b"GCTL"),
+            (0x38, &[0x25]),
+            (0x40, b"MPDB"),
+            (0x48, b"SHA256\0"),
+        ],
+    )?;
+    for (kind, record, wanted) in [
+        (0, (0x20, 23), (DEBUG_SIZE, [0, 0, 23])),
+        (1, (0x20, 15), (DEBUG_SIZE, [0, 0, 15])),
+        // The hash of 37 bytes at 3Ch would end at 61h.
+        (4, (0x38, 8), (DEBUG_DATA, [0, 37, 0])),
+        (5, (0x34, 4), (POGO_SIZE, [0, 0, 4])),
+        (5, (0x34, 45), (DEBUG_DATA, [0, 45, 0])),
+        (6, (0x40, 7), (DEBUG_SIZE, [0, 0, 7])),
+        // "LTCG" as a number.
+        (6, (0x30, 8), (BAD_MAGIC, [0, 0, 0x4743_544C])),
+        (6, (0x40, 33), (DEBUG_DATA, [0, 33, 0])),
+        // No zero in the name of the algorithm.
+        (7, (0x48, 6), (DEBUG_SIZE, [0, 0, 6])),
+    ] {
+        let found = said(&bytes, STRICT, record, kind);
+        assert_eq!(rt; found, (DONE, wanted, 0), "{kind} {record:?}");
+    }
+    // What strict mode alone refuses, records with other signatures, records that are there.
+    for (mode, kind, record) in [
+        (PERMISSIVE, 0, (0x20, 23)),
+        (STRICT, 1, (0x20, 16)),
+        (STRICT, 5, (0x34, 44)),
+        (STRICT, 8, (0x5F, 4)),
+    ] {
+        assert_eq!(rt; said(&bytes, mode, record, kind), NONE, "{kind} {record:?}");
+    }
     Ok(())
 }

@@ -2,8 +2,7 @@
 
 use super::made::*;
 use super::steps::{pe_c_export_at, pe_c_next_export};
-use crate::lists::exports::pe_c_list_exports;
-use crate::names::{pe_c_export_addresses, pe_c_export_tables};
+use crate::names::{pe_c_export_addresses, pe_c_export_tables, pe_c_list_exports};
 use calls_directories::names::export_addresses::{AddressTable, Exported};
 use calls_directories::names::exports::{Export, ExportWalk, Exports};
 use pe_images::image as bytes_of;

@@ -4,7 +4,7 @@
 
 use super::coff::{header_of, object, section_headers};
 use super::made::*;
-use crate::failures::steps::{
+use crate::failures::{
     FAILED_DIRECTORY, FAILED_IMAGE, FAILED_SECTIONS, FAILED_TE, FailedItem,
     pe_c_image_item_failure, pe_c_item_failure,
 };

@@ -2,7 +2,7 @@
 //! `pe_c_function_names` says.
 
 use super::made::*;
-use crate::stack::function_names::{pe_c_function_names, pe_c_name_tables};
+use crate::stack::{pe_c_function_names, pe_c_name_tables};
 use calls_directories::names::exports::Exports;
 use calls_stacks::stack::function_names::{CodeAddress, FunctionName, NameSources};
 use pe_images::image as bytes_of;

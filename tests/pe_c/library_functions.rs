@@ -1,7 +1,7 @@
 //! The list of the functions of all delay-loaded DLLs, whose names are read together in a room of the caller.
 
 use super::made::*;
-use crate::lists::library_functions::pe_c_list_all_delayed_functions;
+use crate::directories::pe_c_list_all_delayed_functions;
 use calls_directories::directories::all_delay_imports::{LibraryFunction, LibraryFunctions};
 use calls_directories::directories::delay_imports::{DelayedFunction, DelayedFunctions};
 use pe_images::image as bytes_of;

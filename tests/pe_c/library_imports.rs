@@ -2,7 +2,7 @@
 
 use super::imports::{NO_IMPORT as ONLY_ONES, with_imports};
 use super::made::*;
-use crate::lists::library_imports::pe_c_list_all_imports;
+use crate::names::pe_c_list_all_imports;
 use calls_directories::names::all_imports::{LibraryImport, LibraryImports};
 use calls_directories::names::imports::{Import, Imports, Libraries};
 

@@ -13,11 +13,9 @@ use crate::pdb::lines::{
     pe_c_find_pdb_line, pe_c_pdb_file_name, pe_c_pdb_files, pe_c_pdb_lines, pe_c_pdb_named_stream,
     pe_c_read_pdb_line,
 };
-use crate::pdb::modules::pe_c_list_pdb_modules;
-use crate::pdb::omap::pe_c_pdb_moved_rva;
-use crate::pdb::symbols::pe_c_list_pdb_symbols;
 use crate::pdb::{
-    pe_c_is_pdb_of, pe_c_pdb, pe_c_pdb_starts, pe_c_pdb_stream, pe_c_pdb_stream_range,
+    pe_c_is_pdb_of, pe_c_list_pdb_modules, pe_c_list_pdb_symbols, pe_c_pdb, pe_c_pdb_moved_rva,
+    pe_c_pdb_starts, pe_c_pdb_stream, pe_c_pdb_stream_range,
 };
 use calls_base::ranges::{NO_BYTES, Range};
 use calls_base::results::{DONE, NOTHING, ROOM};

@@ -8,11 +8,10 @@ use super::made::{
 };
 use super::pdb::{pdb, stream};
 use super::pdb_inlined_bytes::{LENGTH, PIECES};
-use crate::pdb::contributions::pe_c_pdb_module_ranges;
 use crate::pdb::index::{pe_c_find_pdb_symbol, pe_c_pdb_index};
 use crate::pdb::inlined::{pe_c_find_pdb_inlined, pe_c_pdb_ids};
 use crate::pdb::lines::{pe_c_pdb_file_name, pe_c_pdb_files};
-use crate::pdb::modules::pe_c_list_pdb_modules;
+use crate::pdb::{pe_c_list_pdb_modules, pe_c_pdb_module_ranges};
 use calls_base::ranges::{NO_BYTES, Range};
 use calls_base::results::{DONE, NOTHING, ROOM};
 use calls_pdb::inlined::PdbInlined;

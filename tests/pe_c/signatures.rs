@@ -3,12 +3,12 @@
 
 use super::made::*;
 use super::signature_bytes::signature;
-use crate::signatures::parts::{
+use crate::signatures::{
     AnyPart, PART_ALGORITHM, PART_ATTRIBUTE, PART_EXTENSION, PART_IMAGE_DATA, PART_INDIRECT_DATA,
     PART_KEY_USAGE, PART_NAME, PART_OPUS_INFO, PART_SIGNATURE, PART_SIGNER, PART_TIME,
-    PART_TIME_STAMP, PART_X509, pe_c_signature_part,
+    PART_TIME_STAMP, PART_X509, pe_c_find_attribute, pe_c_next_element, pe_c_next_name_attribute,
+    pe_c_signature_part,
 };
-use crate::signatures::{pe_c_find_attribute, pe_c_next_element, pe_c_next_name_attribute};
 use calls_signatures::elements::{DerElement, Oid};
 use calls_signatures::name::NamePart;
 use calls_signatures::refused::SignatureFailure;

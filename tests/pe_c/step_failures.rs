@@ -2,23 +2,22 @@
 //! bytes are those of the tests of each walk; every number is worked out by hand.
 
 use super::arm64::{with_records as with_arm64_records, with_table};
-use super::base_relocations::two_blocks;
 use super::bound_imports::BYTES as BOUND;
-use super::certificates::three_certificates;
 use super::coff::{STRINGS, SYMBOLS, object};
 use super::delay_imports::{bytes_of as with_delay_imports, functions};
+use super::directory_tables::two_blocks;
 use super::imports::with_imports;
 use super::made::*;
 use super::resource_leaves::{NO_LEAF, of_size, start, with_tree};
+use super::signing::three_certificates;
 use super::steps::pe_c_next_resource_leaf;
 use super::unwinding::with_records;
-use crate::failures::steps::arm64::pe_c_arm64_code_failure;
-use crate::failures::steps::unwinding::{pe_c_code_failure, pe_c_unwind_record_failure};
-use crate::failures::steps::{
+use crate::failures::{
     FAILED_ARM64_RECORD, FAILED_BOUND_IMPORT, FAILED_CERTIFICATE, FAILED_DELAY_IMPORT,
     FAILED_DELAYED_FUNCTION, FAILED_IMPORT, FAILED_LIBRARY, FAILED_RELOCATION,
     FAILED_RELOCATION_BLOCK, FAILED_RESOURCE_LEAF, FAILED_SYMBOL_NAME, FailedItem,
-    pe_c_image_item_failure, pe_c_item_failure,
+    pe_c_arm64_code_failure, pe_c_code_failure, pe_c_image_item_failure, pe_c_item_failure,
+    pe_c_unwind_record_failure,
 };
 use crate::unwinding::pe_c_unwind_record;
 use calls_directories::names::imports::{Imports, Libraries};

@@ -2,24 +2,23 @@
 //! those that make two calls, the second over what the first writes.
 
 use super::made::*;
-use crate::arm64::stack_walk::pe_c_next_arm64_frames;
-use crate::headers::coff::pe_c_next_symbol;
-use crate::lists::arm64::{pe_c_list_arm64_codes, pe_c_list_arm64_functions};
-use crate::lists::bound_imports::{pe_c_list_bound_forwarders, pe_c_list_bound_imports};
-use crate::lists::debug::pe_c_list_pogo_entries;
-use crate::lists::delay_imports::{pe_c_list_delay_imports, pe_c_list_delayed_functions};
-use crate::lists::exports::pe_c_list_exports;
-use crate::lists::forwarders::pe_c_list_export_addresses;
-use crate::lists::guard_tables::pe_c_list_guard_entries;
-use crate::lists::imports::pe_c_list_libraries;
-use crate::lists::relocations::{pe_c_list_relocation_blocks, pe_c_list_relocations};
-use crate::lists::resources::{pe_c_list_resource_leaves, pe_c_list_version_blocks};
-use crate::lists::x64::pe_c_list_codes;
+use crate::arm64::{pe_c_list_arm64_codes, pe_c_list_arm64_functions, pe_c_next_arm64_frames};
+use crate::debug::pe_c_list_pogo_entries;
+use crate::directories::{
+    pe_c_list_bound_forwarders, pe_c_list_bound_imports, pe_c_list_delay_imports,
+    pe_c_list_delayed_functions, pe_c_list_guard_entries, pe_c_list_relocation_blocks,
+    pe_c_list_relocations,
+};
+use crate::headers::pe_c_next_symbol;
 pub(crate) use crate::names::pe_c_next_import;
-use crate::resources::{pe_c_fixed_version_in, pe_c_version_blocks, pe_c_version_text_in};
-use crate::stack::walk::pe_c_next_frames;
-use crate::unwinding::pe_c_exception_table;
+use crate::names::{pe_c_list_export_addresses, pe_c_list_exports, pe_c_list_libraries};
+use crate::resources::{
+    pe_c_fixed_version_in, pe_c_list_resource_leaves, pe_c_list_version_blocks,
+    pe_c_version_blocks, pe_c_version_text_in,
+};
+use crate::stack::pe_c_next_frames;
 pub(crate) use crate::unwinding::pe_c_function_at;
+use crate::unwinding::{pe_c_exception_table, pe_c_list_codes};
 use calls_directories::directories::base_relocations::{Relocation, RelocationBlock};
 use calls_directories::directories::bound_imports::{BoundForwarder, BoundImport};
 use calls_directories::directories::delay_imports::{

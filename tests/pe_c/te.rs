@@ -3,9 +3,7 @@
 
 use super::made::*;
 use crate::debug::pe_c_debug_record;
-use crate::headers::te::{
-    pe_c_next_te_debug_entry, pe_c_te, pe_c_te_debug_entries, pe_c_te_sections,
-};
+use crate::headers::{pe_c_next_te_debug_entry, pe_c_te, pe_c_te_debug_entries, pe_c_te_sections};
 use calls_headers::debug::DebugRecords;
 use calls_headers::te::TeImage;
 use pe_images::{te, te_with_debug};

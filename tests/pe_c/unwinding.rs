@@ -1,11 +1,13 @@
 //! The functions of x64 images, their unwind records and scope tables.
 
 use super::made::*;
-use super::steps::{pe_c_function_at, pe_c_function_table};
+use super::steps::{pe_c_function_at, pe_c_function_table, pe_c_next_code};
 use crate::unwinding::{
-    pe_c_exception_table, pe_c_find_function, pe_c_next_scope, pe_c_scope_table, pe_c_unwind_record,
+    pe_c_exception_table, pe_c_find_function, pe_c_next_record, pe_c_next_scope, pe_c_scope_table,
+    pe_c_unwind_record,
 };
-use calls_unwind::unwinding::{CodeWalk, UnwindRecord};
+use calls_unwind::unwinding::plan::{Plan, PlanWalk};
+use calls_unwind::unwinding::{Code, CodeWalk, UnwindRecord};
 use pe_unwind::{RuntimeFunction, ScopeTableEntry};
 
 const NO_FUNCTION: RuntimeFunction = RuntimeFunction {
@@ -294,5 +296,254 @@ fn scopes_in_turn(rt: HostRuntime) -> Result<(), Fail> {
     let mut cut = range(8, 31);
     assert_eq!(rt; step(&mut cut), (DONE, first, [24, 15]));
     assert_eq!(rt; step(&mut cut), (SHORT, NO_SCOPE, OVER));
+    Ok(())
+}
+
+// ---- the unwind codes of x64 records, one a step
+
+/// A walk whose spare bytes are not zero: nothing reads them, and no step changes them.
+fn walk_over(left: Range, version: u8, frame_register: u8) -> CodeWalk {
+    CodeWalk {
+        left,
+        version,
+        frame_register,
+        spare: [9; 6],
+    }
+}
+
+/// What a code is before a call that hands out another.
+const NO_CODE: [u32; 5] = [1, 2, 3, 4, 5];
+
+/// One step: the answer, all fields of the code, and the walk.
+fn step(bytes: &[u8], walk: &mut CodeWalk) -> (u32, [u32; 5], [u64; 2]) {
+    let mut out = Code {
+        code_offset: 1,
+        operation: 2,
+        operand: 3,
+        from_frame: 4,
+        value: 5,
+    };
+    let answer = pe_c_next_code(bytes, walk, &mut out);
+    let Code {
+        code_offset,
+        operation,
+        operand,
+        from_frame,
+        value,
+    } = out;
+    let numbers = [
+        u32::from(code_offset),
+        u32::from(operation),
+        u32::from(operand),
+        u32::from(from_frame),
+        value,
+    ];
+    (answer, numbers, of_range(walk.left))
+}
+
+/// What no step changes.
+fn rest_of(walk: &CodeWalk) -> (u8, u8, [u8; 6]) {
+    (walk.version, walk.frame_register, walk.spare)
+}
+
+/// A code of every operation: the version, its bytes, and its operation, operand, whether its value counts from the frame
+/// register where there is one, and the value. The first byte is the offset after the instruction, 9; the second has the
+/// opcode in its low and the info in its high four bits.
+#[test]
+fn each_operation(rt: HostRuntime) {
+    let codes: [(u8, &[u8], u32, u32, u32, u32); 15] = [
+        (1, &[9, 0x50], 0, 5, 0, 0),
+        (1, &[9, 0x01, 6, 0], 1, 0, 0, 48),
+        (1, &[9, 0x11, 0, 0, 2, 0], 1, 0, 0, 0x2_0000),
+        (1, &[9, 0xF2], 1, 0, 0, 128),
+        (1, &[9, 0x03], 2, 0, 0, 0),
+        (1, &[9, 0x34, 5, 0], 3, 3, 1, 40),
+        (1, &[9, 0x35, 0, 0, 1, 0], 3, 3, 1, 0x1_0000),
+        (1, &[9, 0x66, 2, 0], 4, 23, 1, 32),
+        (2, &[9, 0x16], 5, 1, 0, 9),
+        (1, &[9, 0x67, 0, 0, 1, 0], 6, 23, 1, 0x1_0000),
+        (2, &[9, 0x07, 0, 0, 1, 0], 8, 0, 0, 0),
+        (1, &[9, 0x68, 2, 0], 6, 23, 1, 32),
+        (1, &[9, 0x69, 0, 0, 1, 0], 6, 23, 1, 0x1_0000),
+        (1, &[9, 0x0A], 7, 0, 0, 0),
+        (1, &[9, 0x1A], 7, 1, 0, 0),
+    ];
+    for (version, code, operation, operand, from_frame, value) in codes {
+        for frame_register in [0, 5] {
+            let from_frame = if frame_register == 0 { 0 } else { from_frame };
+            // the code before two zeros, and the walk over its bytes alone
+            let mut bytes = [0; 9];
+            bytes[1..1 + code.len()].copy_from_slice(code);
+            let length = code.len() as u64;
+            let mut walk = walk_over(range(1, length), version, frame_register);
+            let want = [9, operation, operand, from_frame, value];
+            let end = [1 + length, 0];
+            assert_eq!(rt; step(&bytes, &mut walk), (DONE, want, end), "{code:?}");
+            assert_eq!(rt; rest_of(&walk), (version, frame_register, [9; 6]));
+        }
+    }
+}
+
+/// After four bytes: a prolog that pushed rbx, up to 1, and made room for 8 bytes, up to 5.
+#[test]
+fn codes_in_turn(rt: HostRuntime) {
+    let bytes = [0, 0, 0, 0, 5, 0x02, 1, 0x30];
+    let mut walk = walk_over(range(4, 4), 1, 0);
+    assert_eq!(rt; step(&bytes, &mut walk), (DONE, [5, 1, 0, 0, 8], [6, 2]));
+    assert_eq!(rt; step(&bytes, &mut walk), (DONE, [1, 0, 3, 0, 0], [8, 0]));
+    assert_eq!(rt; step(&bytes, &mut walk), (NOTHING, NO_CODE, [8, 0]));
+    // A range that is not inside the bytes.
+    let mut lie = walk_over(range(5, 4), 1, 0);
+    assert_eq!(rt; step(&bytes, &mut lie), (SHORT, NO_CODE, OVER));
+}
+
+/// After a refusal the walk is over: it stands at its end, and its other fields are as they were.
+#[test]
+fn codes_that_are_refused(rt: HostRuntime) {
+    let refused: [(u8, &[u8], u32); 6] = [
+        (1, &[9], SHORT),
+        (1, &[9, 0x11, 0, 0, 2], SHORT),
+        (1, &[9, 0x21, 0, 0, 0, 0], UNWIND_CODE),
+        (1, &[9, 0x2A], UNWIND_CODE),
+        (1, &[9, 0x0B], UNWIND_CODE),
+        (3, &[9, 0x16, 0, 0], UNWIND_CODE),
+    ];
+    for (version, code, number) in refused {
+        // after a code that is read
+        let mut bytes = [0; 8];
+        bytes[1] = 0x50;
+        bytes[2..2 + code.len()].copy_from_slice(code);
+        let length = code.len() as u64;
+        let mut walk = walk_over(range(0, 2 + length), version, 7);
+        let want = (DONE, [0, 0, 5, 0, 0], [2, length]);
+        assert_eq!(rt; step(&bytes, &mut walk), want, "before {code:?}");
+        let end = [2 + length, 0];
+        assert_eq!(rt; step(&bytes, &mut walk), (number, NO_CODE, end), "{code:?}");
+        assert_eq!(rt; rest_of(&walk), (version, 7, [9; 6]));
+    }
+}
+
+// ---- the records of a function up to the root of its chain, one a step
+
+/// Records of version 1 that go on with other functions, whose prologs have different lengths: 16 bytes each from the offset
+/// 0x30 on, after the entries of four functions, the third of which is a link to the first, the fourth one to itself. At 0x30 is a
+/// root, at 0x40, 0x50 and 0x60 one chained to that before it; at 0x70 one chained to itself, at 0x80 one chained to that.
+fn with_chains(alloc: Global) -> Result<Vec<u8>, Fail> {
+    Ok(words(
+        alloc,
+        &[
+            0x5000, 0x5010, 0x1030, 0x5010, 0x5020, 0x1040, 0x5020, 0x5030, 0x1001, 0x5030, 0x5040,
+            0x1025, 0x1101, 0, 0, 0, 0x1221, 0x5000, 0x5010, 0x1030, 0x1321, 0x5010, 0x5020,
+            0x1040, 0x1421, 0x5020, 0x5030, 0x1050, 0x1521, 0x5030, 0x5040, 0x1070, 0x1621, 0x5030,
+            0x5040, 0x1070,
+        ],
+    )?)
+}
+
+/// The entries of the four functions.
+fn table_of_chains() -> Range {
+    range(0, 0x30)
+}
+
+/// A walk by steps, which starts here.
+fn from(plan: Plan) -> PlanWalk {
+    PlanWalk {
+        plan,
+        kept: NO_SECTIONS,
+    }
+}
+
+/// The same from an unwind RVA.
+pub(crate) fn plan_from(unwind: u32) -> PlanWalk {
+    from(Plan {
+        unwind,
+        is_over: 0,
+        saved: unwind,
+        spare: 0,
+        steps: 0,
+        limit: 1,
+    })
+}
+
+fn fields_of(plan: &Plan) -> [u64; 6] {
+    let Plan {
+        unwind,
+        is_over,
+        saved,
+        spare,
+        steps,
+        limit,
+    } = *plan;
+    [
+        u64::from(unwind),
+        u64::from(is_over),
+        u64::from(saved),
+        u64::from(spare),
+        steps,
+        limit,
+    ]
+}
+
+/// What differs between the records: the offset of the codes, the function, whether there is one, the prolog's length.
+fn key_of(record: &UnwindRecord) -> [u64; 4] {
+    [
+        record.codes.left.offset,
+        u64::from(record.chained.unwind_info_address),
+        u64::from(record.is_chained),
+        u64::from(record.size_of_prolog),
+    ]
+}
+
+/// That of a record which no call wrote.
+const NO_KEY: [u64; 4] = [0x0909_0909_0909_0909, 0x0909_0909, 0x0909_0909, 9];
+
+/// One step: the answer, what goes out, and the plan after it.
+fn step_plan(bytes: &[u8], table: &Range, walk: &mut PlanWalk) -> (u32, [u64; 4], [u64; 6]) {
+    let mut out = filled();
+    let answer = pe_c_next_record(
+        &view(bytes, &image(X64), &sections()),
+        table,
+        walk,
+        &mut out,
+    );
+    (answer, key_of(&out), fields_of(&walk.plan))
+}
+
+/// A plan saves an address after 1, 2 and 4 records.
+#[test]
+fn plans_come_to_the_root(rt: HostRuntime) -> Result<(), Fail> {
+    let bytes = with_chains(rt.alloc())?;
+    let table = table_of_chains();
+    let mut plan = plan_from(0x1060);
+    let steps = [
+        (DONE, [0x64, 0x1050, 1, 0x14], [0x1050, 0, 0x1050, 0, 0, 2]),
+        (DONE, [0x54, 0x1040, 1, 0x13], [0x1040, 0, 0x1050, 0, 1, 2]),
+        (DONE, [0x44, 0x1030, 1, 0x12], [0x1030, 0, 0x1030, 0, 0, 4]),
+        (DONE, [0x34, 0, 0, 0x11], [0x1030, 1, 0x1030, 0, 0, 4]),
+        (NOTHING, NO_KEY, [0x1030, 1, 0x1030, 0, 0, 4]),
+    ];
+    for want in steps {
+        assert_eq!(rt; step_plan(&bytes, &table, &mut plan), want);
+    }
+    Ok(())
+}
+
+/// A chain that never ends is refused as one at once where it leads back to the saved address; a chain that comes to such a
+/// ring a few records later.
+#[test]
+fn plans_that_never_end(rt: HostRuntime) -> Result<(), Fail> {
+    let bytes = with_chains(rt.alloc())?;
+    let table = table_of_chains();
+    let mut ring = plan_from(0x1070);
+    // shows: calls_unwind/src/unwinding/plan.rt advance FunctionCycle
+    let refused = (FUNCTION_CYCLE, NO_KEY, [0x1070, 1, 0x1070, 0, 0, 1]);
+    assert_eq!(rt; step_plan(&bytes, &table, &mut ring), refused);
+    assert_eq!(rt; step_plan(&bytes, &table, &mut ring).0, NOTHING);
+    let mut later = plan_from(0x1080);
+    let first = (DONE, [0x84, 0x1070, 1, 0x16], [0x1070, 0, 0x1070, 0, 0, 2]);
+    assert_eq!(rt; step_plan(&bytes, &table, &mut later), first);
+    let refused = (FUNCTION_CYCLE, NO_KEY, [0x1070, 1, 0x1070, 0, 0, 2]);
+    assert_eq!(rt; step_plan(&bytes, &table, &mut later), refused);
+    assert_eq!(rt; step_plan(&bytes, &table, &mut later).0, NOTHING);
     Ok(())
 }

@@ -12,8 +12,8 @@ pub use Rattle.calls_base.proofs.TextRanges.{text_stands}
 pub use Rattle.calls_base.specs.Directories.{image_parts, first_of, first_in, left_after, range_left, read_first, step_of, callbacks_at, first_va_in}
 pub use Rattle.calls_base.specs.HandsOut.{result_number, HandsOutIf}
 pub use Rattle.calls_base.specs.Images.{map_of_image, directory, is_absent, map_by, resource_directory}
-pub use Rattle.calls_base.specs.KeptSections.{ChangeNothing, StepsKept, no_sections, map_kept}
 pub use Rattle.calls_base.specs.Modes.{options_of}
+pub use Rattle.calls_base.specs.KeptSections.{ChangeNothing, StepsKept, no_sections, map_kept}
 pub use Rattle.calls_base.specs.NearMaps.{IsWindow}
 pub use Rattle.calls_base.specs.Ranges.{IsPart, IsRange, bytes_at, or_no_bytes, no_bytes, range_after, range_of, range_from}
 pub use Rattle.calls_base.specs.Runs.{EachHas, IsOver, ReturnsItems, and_after, read_items, read_in_turn}
@@ -58,13 +58,11 @@ pub use Rattle.pe_resource.specs.Resources.{FirstDirectoryView, IsOfFirst, IsRes
 pub use Rattle.pe_resource.specs.declared.entry.ResourceEntry.{ResourceEntry}
 pub use Rattle.calls_directories.specs.BoundImports.{bound_reported, forwarder_reported, next_forwarder, unless_refused, bound_imports_at}
 pub use Rattle.calls_directories.specs.Clr.{content_of, first_stream_in, metadata_reported, stream_reported, clr_metadata_at, no_streams, streams_after, streams_in}
-pub use Rattle.calls_directories.specs.DelayImports.{address_in, dll_range, functions_of, library_of, first_library_in, first_of_walk, functions_after}
+pub use Rattle.calls_directories.specs.DelayImports.{address_in, dll_range, functions_of, library_of, first_library_in, first_of_walk, functions_after, dll_reported, function_reported, table_reported}
 unfoldable pub use Rattle.calls_directories.specs.DelayImports.{address_offset, function_of, name_range, named_at}
-pub use Rattle.calls_directories.specs.DelayLaws.{dll_reported, function_reported, table_reported}
 pub use Rattle.calls_directories.specs.DirectoryRuns.{HasBound, HasBlock, StepsBlocks, StepsBoundImports, StepsDelayLibraries, StepsForwarders, StepsRelocations, blocks_reported, bounds_reported, forwarders_reported, relocations_reported, StepsBy, StepsDelayedFunctions, StepsCallbacks, HasContent, HasStream, StepsStreams, after_stream, streams_reported}
 pub use Rattle.calls_directories.specs.ExportAddresses.{address_table, addresses_in, exported_with, exported_at, exported_in}
-pub use Rattle.calls_directories.specs.ExportWindows.{AreNear}
-pub use Rattle.calls_directories.specs.Exports.{export_reported, one_if, reported_entry, walk_over, with_tables, FindsNext, StepsExports, StepsExportsIf, StepsOverExports, count_of, exports_after, tables_or_short, reported_from, HaveNone, view_of}
+pub use Rattle.calls_directories.specs.Exports.{AreNear, export_reported, one_if, reported_entry, walk_over, with_tables, FindsNext, StepsExports, StepsExportsIf, StepsOverExports, count_of, exports_after, tables_or_short, reported_from, HaveNone, view_of}
 pub use Rattle.calls_directories.specs.Imports.{import_left, StepsImports, StepsLibraries, import_by, no_libraries}
 unfoldable pub use Rattle.calls_directories.specs.Imports.{import_step, library_step}
 pub use Rattle.calls_directories.specs.LibraryFunctions.{AreFunctionsOf, StepsLibraryFunctions, turn_by_function}

@@ -1,17 +1,6 @@
 -- Whole walks over directories return the lists of pe_directories.
 use Rattle.std.proofs.Common.{◌≡◌, ℕ, ◌+◌, ◌-◌, ◌*◌, ◌≤◌, Bool, true, false, List, [], ◌∷◌, length, drop, Option, Some, None, Result, Ok, Err, refl, sym, ap, subst, ◌∙◌, arith}
-use Rattle.calls_directories.proofs.Cited.{if◌then◌else◌, nat_tests, length_range, range_in_range, holds, le, range, Refusal, Short}
-use Rattle.calls_directories.proofs.Cited.{outcome, ◌>>=◌, entry_items, text_at, Block, first_block, first_relocation}
-use Rattle.calls_directories.proofs.Cited.{is_block_size, relocation_of, relocation_size, Bound, bound_at, bound_forwarder_at}
-use Rattle.calls_directories.proofs.Cited.{bound_imports_end, bound_name, bound_of, bound_size, first_bound_import}
-use Rattle.calls_directories.proofs.Cited.{first_delay_import, DirectoryRefusal, Image, BlockSize, BlockTruncated, of_image, Items}
-use Rattle.calls_directories.proofs.Cited.{DelayImport, text_stands, Makes, gives_first, gives_nothing, gives_refusal, StepsEntries}
-use Rattle.calls_directories.proofs.Cited.{next_of, walk_items, walk_of, bytes_of_range, size_of, there, bound_reported}
-use Rattle.calls_directories.proofs.Cited.{forwarder_reported, next_forwarder, unless_refused, library_of, HasBound, HasBlock}
-use Rattle.calls_directories.proofs.Cited.{StepsBlocks, StepsBoundImports, StepsDelayLibraries, StepsForwarders, StepsRelocations}
-use Rattle.calls_directories.proofs.Cited.{blocks_reported, bounds_reported, forwarders_reported, relocations_reported, directory}
-use Rattle.calls_directories.proofs.Cited.{IsRange, bytes_at, no_bytes, range_after, EachHas, IsOver, ReturnsItems, read_items}
-use Rattle.calls_directories.proofs.Cited.{DelayLibrary, Range}
+use Rattle.calls_directories.proofs.Cited.{if◌then◌else◌, nat_tests, length_range, range_in_range, holds, le, range, Refusal, Short, outcome, ◌>>=◌, entry_items, text_at, Block, first_block, first_relocation, is_block_size, relocation_of, relocation_size, Bound, bound_at, bound_forwarder_at, bound_imports_end, bound_name, bound_of, bound_size, first_bound_import, first_delay_import, DirectoryRefusal, Image, BlockSize, BlockTruncated, of_image, Items, DelayImport, text_stands, Makes, gives_first, gives_nothing, gives_refusal, StepsEntries, next_of, walk_items, walk_of, bytes_of_range, size_of, there, bound_reported, forwarder_reported, next_forwarder, unless_refused, library_of, HasBound, HasBlock, StepsBlocks, StepsBoundImports, StepsDelayLibraries, StepsForwarders, StepsRelocations, blocks_reported, bounds_reported, forwarders_reported, relocations_reported, directory, IsRange, bytes_at, no_bytes, range_after, EachHas, IsOver, ReturnsItems, read_items, DelayLibrary, Range}
 use Rattle.pe_directories.specs.BaseRelocations.{block_of, blocks_end}
 use Rattle.pe_directories.specs.BoundImports.{name_or_refusal}
 use Rattle.pe_directories.specs.declared.base_relocation.BaseRelocation.{BaseRelocation}
@@ -19,7 +8,7 @@ use Rattle.pe_directories.specs.ForwardersAfter.{forwarders_after}
 use Rattle.pe_directories.specs.declared.bound_import.BoundForwarder as forwarders
 use Rattle.calls_base.proofs.EntryRuns.{gives_entries}
 use Rattle.calls_directories.proofs.DirectoryRuns.{Read, Reported, Takes, each_has, in_turn, read_further, refused, reported, same_read, sees_refusal}
-use Rattle.calls_directories.specs.Relocations.{block_reported, relocation_reported}
+use Rattle.calls_directories.specs.DirectoryRuns.{block_reported, relocation_reported}
 use Rattle.calls_directories.specs.declared.directories.base_relocations.RelocationBlock.{RelocationBlock}
 use Rattle.calls_directories.specs.declared.directories.bound_imports.BoundForwarder.{BoundForwarder}
 use Rattle.calls_directories.specs.declared.directories.bound_imports.BoundImport.{BoundImport}

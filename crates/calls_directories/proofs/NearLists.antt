@@ -1,15 +1,10 @@
 -- Lists that keep windows of the section map, or read a table once.
 use Rattle.std.proofs.Common.{◌≡◌, ℕ, List, length, Option, Result, Ok, refl, sym, subst, ◌∙◌, ◌==◌, arith}
-use Rattle.calls_directories.proofs.Cited.{AddressesView, entry_size, Refusal, ◌>>=◌, same_map, addresses_in, exported_at}
-use Rattle.calls_directories.proofs.Cited.{exported_in, StepsExports, result_number, StepsImports, StepsLibraryFunctions}
-use Rattle.calls_directories.proofs.Cited.{StepsLibraryImports, ChangeNothing, StepsKept, no_sections, bytes_at, map_of}
-use Rattle.calls_directories.proofs.Cited.{AddressTable, Exported, Export, Exports, Import, Imports, LibraryFunction}
-use Rattle.calls_directories.proofs.Cited.{LibraryFunctions, LibraryImport}
+use Rattle.calls_directories.proofs.Cited.{AddressesView, entry_size, Refusal, ◌>>=◌, same_map, addresses_in, exported_at, exported_in, StepsExports, result_number, StepsImports, StepsLibraryFunctions, StepsLibraryImports, ChangeNothing, StepsKept, no_sections, bytes_at, map_of, AddressTable, Exported, Export, Exports, Import, Imports, LibraryFunction, LibraryFunctions, LibraryImport}
 use Rattle.calls_base.specs.DirectoryResults.{directory_number}
 use Rattle.calls_base.proofs.FilledLists.{StepsAs, hands_out_as, numbered_as}
 use Rattle.calls_base.specs.Lists.{HandsOutList, Numbered, StepsByIndex}
-use Rattle.calls_directories.specs.KeptWalks.{StepsKeptExports, StepsKeptImports}
-use Rattle.calls_directories.specs.NearLists.{StepsKeptLibraryFunctions, StepsNear, StepsNearExports, StepsNearImports, StepsNearLibraryImports}
+use Rattle.calls_directories.specs.KeptWalks.{StepsKeptExports, StepsKeptImports, StepsKeptLibraryFunctions, StepsNear, StepsNearExports, StepsNearImports, StepsNearLibraryImports}
 use Rattle.calls_directories.specs.declared.names.exports.ExportWalk.{ExportWalk}
 use Rattle.calls_directories.specs.declared.names.imports.ImportWalk.{ImportWalk}
 use Rattle.calls_base.specs.declared.kept_sections.KeptSections.{KeptSections}

@@ -4,7 +4,7 @@ use Rattle.pe_core.specs.Bytes.{le, record_at}
 use Rattle.pe_core.specs.Refusals.{◌>>=◌}
 use Rattle.pe_core.specs.SectionMap.{mapped}
 use Rattle.pe_core.specs.Text.{text_at}
-use Rattle.pe_directories.specs.DelayImports.{first_delay_import, name_or_refusal, ordinal_flag}
+use Rattle.pe_directories.specs.DelayImports.{first_delay_import, name_or_refusal, ordinal_flag, Function, Ordinal, Name, delay_dll, hint_offset, imported_by, offset_in_entry}
 use Rattle.pe_directories.specs.DirectoryRefusals.{DirectoryRefusal, VaBelowBase, of_image}
 use Rattle.pe_directories.specs.Walks.{First}
 use Rattle.pe_directories.specs.declared.delay_import.DelayImport.{DelayImport}
@@ -15,6 +15,7 @@ use Rattle.calls_directories.specs.declared.directories.delay_imports.DelayedFun
 use Rattle.calls_directories.specs.declared.directories.delay_imports.DelayedFunctions.{DelayedFunctions}
 use Rattle.calls_base.specs.declared.image.Image as images
 use Rattle.calls_base.specs.declared.ranges.Range.{Range}
+use Rattle.pe_directories.specs.ImageParts.{ImageView}
 
 -- ---- addresses; `offset` maps an RVA to its file offset
 
@@ -90,3 +91,26 @@ first_of_walk offset b image w = first_function_in offset b image w.attributes w
 -- the walk after a step
 abbrev pub functions_after : DelayedFunctions → First DelayedFunction (List ℕ) → DelayedFunctions
 functions_after w first = record w { left = left_after w.left first }
+
+-- ---- delay imports as callers get them of what pe_directories defines. Steps return these where RVAs are mapped by the sections of
+-- the image: the law `delay_imports_are_those_of_the_image`.
+
+-- the range of the name of an entry's DLL
+abbrev pub dll_reported : ImageView → DelayImport → Result Range DirectoryRefusal
+dll_reported i e = delay_dll i e >>= λ name. offset_in_entry i e e.name >>= λ p. Ok (record { offset = p; length = length name })
+
+-- the walk over what is imported of it, from the first number of its table to the end of the bytes
+abbrev pub table_reported : ImageView → DelayImport → Result DelayedFunctions DirectoryRefusal
+table_reported i e =
+    offset_in_entry i e e.import_name_table
+    >>= λ p. Ok (record { left = record { offset = p; length = length i.bytes - p }; attributes = e.attributes; spare = 0 })
+
+-- what is imported, where the hint has this file offset: a name follows a hint of 2 bytes
+abbrev pub function_reported : Result ℕ DirectoryRefusal → Function → Result DelayedFunction DirectoryRefusal
+function_reported hint_at (Ordinal ordinal) = Ok (record { name = no_bytes; ordinal = ordinal; has_name = 0 })
+function_reported hint_at (Name hint name) =
+    hint_at >>= λ p. Ok (record { name = record { offset = p + 2; length = length name }; ordinal = hint; has_name = 1 })
+
+-- what a number of the table imports
+abbrev pub import_reported : ImageView → DelayImport → ℕ → Result DelayedFunction DirectoryRefusal
+import_reported i e number = imported_by i e number >>= function_reported (hint_offset i e number)

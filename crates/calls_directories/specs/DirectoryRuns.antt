@@ -1,4 +1,4 @@
--- Steps of walks over directories, and what calls return of the lists of pe_directories.
+-- Base relocations as calls return them, steps of walks over directories, and what calls return of the lists of pe_directories.
 use Rattle.std.specs.Prelude.{◌≡◌, ℕ, ◌+◌, ◌-◌, List, length, map, Option, Result, Ok, Err}
 use Rattle.pe_core.specs.Bytes.{range, record_at}
 use Rattle.pe_core.specs.Refusals.{Refusal}
@@ -13,8 +13,7 @@ use Rattle.calls_directories.specs.BoundImports.{after_forwarder, bound_reported
 use Rattle.calls_directories.specs.Clr.{first_stream_in, stream_reported, streams_after}
 use Rattle.calls_directories.specs.DelayImports.{first_library_in, first_of_walk, functions_after}
 use Rattle.calls_base.specs.Directories.{first_in, first_va_in, left_after, step_of}
-use Rattle.calls_directories.specs.Relocations.{block_reported, relocation_reported}
-use Rattle.calls_base.specs.Ranges.{IsRange, range_after}
+use Rattle.calls_base.specs.Ranges.{IsRange, range_after, or_zero}
 use Rattle.calls_base.specs.Runs.{read_in_turn, read_items, EachHas, ReturnsItems}
 use Rattle.calls_directories.specs.declared.directories.base_relocations.Relocation.{Relocation}
 use Rattle.calls_directories.specs.declared.directories.base_relocations.RelocationBlock.{RelocationBlock}
@@ -27,6 +26,17 @@ use Rattle.calls_directories.specs.declared.directories.delay_imports.DelayedFun
 use Rattle.calls_directories.specs.declared.directories.delay_imports.DelayedFunctions.{DelayedFunctions}
 use Rattle.calls_base.specs.declared.image.Image as images
 use Rattle.calls_base.specs.declared.ranges.Range.{Range}
+
+-- a block of a walk as callers get it: its entries follow its two numbers
+abbrev pub block_reported : Range → Block → RelocationBlock
+block_reported r x = record {
+  entries = record { offset = r.offset + 8; length = length x.entries };
+  page_rva = x.page_rva;
+  spare = 0;
+}
+
+abbrev pub relocation_reported : BaseRelocation → Relocation
+relocation_reported x = record { rva = x.rva; kind = x.kind; argument = or_zero x.argument }
 
 -- a step by what stands first in a walk: what it returns of that, and the walk after it
 abbrev pub StepsBy : {W X Y S : Type 0} → (W → X → Y) → (W → First X S) → (W → First X S → W) → W → Result (Option Y) DirectoryRefusal → W → Type 0

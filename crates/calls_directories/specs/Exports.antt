@@ -15,6 +15,8 @@ use Rattle.calls_base.specs.declared.image.Image.{Image}
 use Rattle.calls_base.specs.declared.ranges.Range.{Range}
 use Rattle.calls_base.specs.Images.{export_directory, is_absent}
 use Rattle.calls_base.specs.Ranges.{bytes_at, no_bytes, or_no_bytes, range_from, or_zero, one_if_some, text_from}
+use Rattle.calls_base.specs.NearMaps.{IsWindow}
+use Rattle.calls_directories.specs.declared.names.near_exports.ExportWindows.{ExportWindows}
 
 -- ---- the tables
 
@@ -138,3 +140,10 @@ StepsExportsIf false offset b w answer new = StepsOverExports offset b (tables_o
 -- a step: nothing at the end of the name table; `Short`, and the walk is over, where a table is not inside the bytes
 abbrev pub StepsExports : (ℕ → Option ℕ) → List ℕ → Exports → Result (Option Export) Refusal → Exports → Type 0
 StepsExports offset b w answer new = StepsExportsIf (nat_le (count_of w) w.next) offset b w answer new
+
+-- ---- windows of the section map for a list of exports. Only contracts of private functions cite this.
+
+-- both are windows of the map
+pub record AreNear (to_offset : ℕ → Option ℕ) (w : ExportWindows) : Type 0 where
+  pub names : IsWindow to_offset w.names
+  pub exported : IsWindow to_offset w.exported

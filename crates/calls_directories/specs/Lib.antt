@@ -1,7 +1,6 @@
 pub mod Certificates
 pub mod Clr
 pub mod DelayImports
-pub mod DelayLaws
 pub mod ExportAddresses
 pub mod Exports
 pub mod Imports
@@ -16,7 +15,4 @@ pub mod ResourceLeaves
 pub mod BoundImports
 pub mod VersionBlocks
 pub mod GuardTables
-pub mod ExportWindows
 pub mod KeptWalks
-pub mod NearLists
-pub mod Relocations

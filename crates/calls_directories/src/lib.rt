@@ -4,6 +4,5 @@
 #![tactic(auto)]
 
 pub mod directories;
-pub mod lists;
 pub mod names;
 pub mod resources;

@@ -13,7 +13,7 @@ use Rattle.calls_failures.specs.Failures.{Explains, fields_size, first_failure, 
 use Rattle.calls_base.specs.HandsOut.{result_number}
 use Rattle.calls_base.specs.Images.{image_at, image_info_of}
 use Rattle.calls_base.specs.Modes.{mode_of_number}
-use Rattle.calls_headers.specs.Te.{te_image_at, te_image_of}
+use Rattle.calls_headers.specs.Headers.{te_image_at, te_image_of}
 use Rattle.calls_base.specs.declared.numbers.Failure.{Failure}
 
 -- ---- lists of tests

@@ -11,10 +11,10 @@ use Rattle.calls_directories.specs.Certificates.{certificate_step}
 use Rattle.calls_directories.specs.Clr.{clr_header_at}
 use Rattle.calls_headers.specs.Debug.{debug_entries_range}
 use Rattle.calls_base.specs.Directories.{table_at, tls_at}
+use Rattle.calls_base.specs.FailureNumbers.{directory_refused, needed_at, no_numbers, number_there, numbers, refused, refused_value}
 use Rattle.calls_base.specs.DirectoryResults.{directory_number}
 use Rattle.calls_directories.specs.Exports.{tables_at}
 use Rattle.calls_base.specs.Ranges.{or_zero}
-use Rattle.calls_base.specs.FailureNumbers.{directory_refused, needed_at, no_numbers, number_there, numbers, refused, refused_value}
 use Rattle.calls_base.specs.HandsOut.{result_number}
 use Rattle.calls_failures.specs.ImageParts.{function_table}
 use Rattle.calls_base.specs.Images.{directory, for_directory, map_by}

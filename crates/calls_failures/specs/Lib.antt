@@ -4,8 +4,5 @@ pub mod DebugFailures
 pub mod ImageParts
 pub mod StepFailures
 pub mod ResourceFailures
-pub mod DelayFailures
-pub mod BoundFailures
-pub mod SymbolFailures
 pub mod UnwindFailures
 pub mod Arm64Failures

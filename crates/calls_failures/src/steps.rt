@@ -6,7 +6,7 @@ ghost use Rattle.pe_core.specs.Imports.{entry_size};
 ghost use Rattle.pe_directories.specs.BaseRelocations.{first_block, first_relocation};
 ghost use Rattle.calls_directories.specs.Certificates.{certificate_step};
 ghost use Rattle.calls_base.specs.Directories.{first_in, step_of};
-ghost use Rattle.calls_directories.specs.Relocations.{block_reported, relocation_reported};
+ghost use Rattle.calls_directories.specs.DirectoryRuns.{block_reported, relocation_reported};
 ghost use Rattle.calls_base.specs.FailureNumbers.{directory_refused, failure_by, refused};
 ghost use Rattle.calls_directories.specs.Imports.{import_step, library_step, hint_rva};
 ghost use Rattle.calls_failures.specs.StepFailures.{block_numbers, certificate_numbers, end_of_list, import_numbers, library_numbers, relocation_numbers};

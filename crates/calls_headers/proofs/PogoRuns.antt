@@ -7,7 +7,7 @@ use Rattle.pe_records.proofs.PogoNames.{starts_once}
 use Rattle.pe_records.specs.Pogo.{StartsWith, StartsWithNone, Entries, Entry, pogo_entry_of, refusal}
 use Rattle.pe_records.specs.declared.debug.pogo.POGOInfoEntry.{POGOInfoEntry}
 use Rattle.calls_base.proofs.LeftBytes.{bytes_there, left_after, nothing_there, size_of}
-use Rattle.calls_headers.specs.DebugWalks.{StepsOverPogo, StepsPogoEntries, entries_reported, reported}
+use Rattle.calls_headers.specs.Debug.{StepsOverPogo, StepsPogoEntries, entries_reported, reported}
 use Rattle.calls_base.specs.Ranges.{range_after, bytes_at, no_bytes}
 use Rattle.calls_base.specs.Runs.{ReturnsItems, IsOver}
 use Rattle.calls_headers.specs.declared.debug.walks.PogoEntry.{PogoEntry}

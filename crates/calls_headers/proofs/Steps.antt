@@ -8,7 +8,7 @@ use Rattle.pe_core.specs.declared.error.Error.{Error}
 use Rattle.pe_core.specs.SectionMap.{rounded_up}
 use Rattle.pe_records.specs.Pogo.{StartsWith, ReturnsPogoEntry, pogo_entry_of}
 use Rattle.pe_records.specs.declared.debug.pogo.POGOInfoEntry.{POGOInfoEntry}
-use Rattle.calls_headers.specs.DebugWalks.{IsNamed}
+use Rattle.calls_headers.specs.Debug.{IsNamed}
 use Rattle.calls_base.specs.declared.ranges.Range.{Range}
 
 -- a step that returns an entry takes its bytes

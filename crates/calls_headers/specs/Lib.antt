@@ -1,9 +1,3 @@
 pub mod Debug
-pub mod DebugWalks
-pub mod RichHeaders
-pub mod SectionNames
-pub mod Overlays
 pub mod Headers
 pub mod Coff
-pub mod Te
-pub mod NamedSymbols

@@ -5,15 +5,17 @@
 ghost use Rattle.std.specs.Prelude.{◌≡◌, ◌≤◌, ◌^◌};
 ghost use Rattle.pe_core.specs.Header.{header_view, optional_header_view};
 ghost use Rattle.pe_core.specs.Refusals.{answer_of};
-ghost use Rattle.calls_headers.specs.Headers.{coff_fields, dos_fields, headers_at, headers_of, optional_fields, with_fields};
+ghost use Rattle.calls_headers.specs.Headers.{coff_fields, dos_fields, headers_at, headers_of, optional_fields, with_fields, overlay_at};
 
 use calls_base::image::{ABSENT, SIZE_BEFORE_OPTIONAL_HEADER, directories_at, directories_of};
-use calls_base::ranges::Range;
+use calls_base::ranges::{Range, range_of};
 use calls_base::results::options;
+use calls_base::view::View;
 use pe_core::{
     CoffHeader, DataDirectory, DosHeader, Header, OptionalHeader, Result, SIZE_OF_DOS_HEADER,
     read_u16,
 };
+use pe_directories::overlay_range;
 
 /// The DOS header, `IMAGE_DOS_HEADER` of winnt.h, in its layout. DOS reads what stands between the signature and the last
 /// field, and Windows only these two.
@@ -341,4 +343,14 @@ pub fn read_headers(bytes: &[u8], mode: u32) -> Result<Headers>
 {
     let header = Header::parse_with_opts(bytes, &options(mode))?;
     Ok(headers_of(&header))
+}
+
+pub fn overlay_at(view: &View) -> Option<Range>
+    ensures { result ≡ overlay_at view.now.bytes.now view.now.image.now view.now.sections.now }
+{
+    if !options(view.image.mode).resolve_rva {
+        return None;
+    }
+    let overlay = overlay_range(view.bytes.len(), view.image.size_of_headers, view.sections)?;
+    Some(range_of(overlay))
 }

@@ -5,10 +5,8 @@
 pub mod coff;
 pub mod debug;
 pub mod headers;
-pub mod lists;
 pub mod map_ranges;
 pub mod maps;
-pub mod overlay;
 pub mod rich_header;
 pub mod section_names;
 pub mod te;

@@ -4,8 +4,8 @@
 
 ghost use Rattle.std.specs.Option.{option_and_then};
 ghost use Rattle.std.specs.Prelude.{◌≡◌, position, slice_get};
-ghost use Rattle.calls_base.specs.MapRanges.{holds_offset, range_at, range_in, rva_at, rva_in};
 ghost use Rattle.calls_base.specs.Maps.{covers};
+ghost use Rattle.calls_base.specs.MapRanges.{holds_offset, range_at, range_in, rva_at, rva_in};
 ghost use Rattle.pe_lookup.specs.SectionIndexes.{sections_by};
 
 use crate::maps::{bytes_between, covers, first_covering};

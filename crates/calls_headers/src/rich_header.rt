@@ -4,7 +4,7 @@
 ghost use Rattle.std.specs.Prelude.{◌≡◌};
 ghost use Rattle.pe_core.specs.Refusals.{answer_of};
 ghost use Rattle.pe_directories.specs.RichHeader.{rich_view};
-ghost use Rattle.calls_headers.specs.RichHeaders.{rich_at, rich_entry_at, rich_reported};
+ghost use Rattle.calls_headers.specs.Headers.{rich_at, rich_entry_at, rich_reported};
 ghost use Rattle.calls_base.specs.Walks.{next_of, walk_of};
 
 use calls_base::ranges::Range;

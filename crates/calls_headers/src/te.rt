@@ -11,7 +11,7 @@ ghost use Rattle.pe_core.specs.Refusals.{answer_of};
 ghost use Rattle.pe_core.specs.Rows.{rows};
 ghost use Rattle.pe_core.specs.TeImages.{reduced, reduced_section};
 ghost use Rattle.pe_records.specs.DebugDirectory.{debug_entry_at};
-ghost use Rattle.calls_headers.specs.Te.{te_debug_range, te_image_at, te_section};
+ghost use Rattle.calls_headers.specs.Headers.{te_debug_range, te_image_at, te_section};
 ghost use Rattle.calls_base.specs.Walks.{next_of, walk_of};
 
 use calls_base::image::is_absent;
@@ -101,7 +101,7 @@ pub fn put_sections(bytes: &[u8], fixup: u32, count: usize, room: &mut [SectionT
     }
 }
 
-#[tactic(auto, unfolding(crate::specs::Te::te_debug_range))]
+#[tactic(auto, unfolding(crate::specs::Headers::te_debug_range))]
 pub fn te_debug_range(bytes: &[u8], te: &TeImage) -> Result<Option<Range>>
     ensures { answer_of result ≡ te_debug_range bytes.now te.now }
 {

@@ -4,4 +4,3 @@ pub mod PdbSymbols
 pub mod PdbIndexes
 pub mod PdbLines
 pub mod PdbInlined
-pub mod PdbContributions

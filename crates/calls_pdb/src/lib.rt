@@ -2,7 +2,6 @@
 //! https://llvm.org/docs/PDB
 #![tactic(auto)]
 
-pub mod contributions;
 pub mod index;
 pub mod inlined;
 pub mod lines;

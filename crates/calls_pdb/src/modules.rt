@@ -5,13 +5,15 @@
 ghost use Rattle.std.specs.Prelude.{◌≡◌, ◌+◌, ◌<◌, ◌≤◌, ◌^◌, IfOk, IfSome, length};
 ghost use Rattle.pe_pdb.specs.Modules.{module_view};
 ghost use Rattle.calls_base.specs.Lists.{Numbered};
-ghost use Rattle.calls_pdb.specs.PdbModules.{StepsModules, first_module, module_reported, module_step, module_walk, symbols_range};
+ghost use Rattle.calls_pdb.specs.PdbModules.{StepsModules, first_module, module_reported, module_step, module_walk, symbols_range, contributions_at, module_rows};
 ghost use Rattle.calls_pdb.specs.Pdbs.{pdb_answer, pdb_number};
+ghost use Rattle.pe_pdb.specs.Contributions.{contributions_view};
+ghost use Rattle.pe_pdb.specs.Refusals.{PdbReturns};
 
 use crate::pdb::{numbered_pdb, part_of};
 use calls_base::lists::Steps;
 use calls_base::ranges::{NO_BYTES, Range};
-use pe_pdb::{FIRST_SYMBOL, Module, ModuleRecord};
+use pe_pdb::{FIRST_SYMBOL, Module, ModuleRecord, Result, SectionContributions, SectionHeaders};
 
 /// The size of a record before its names in bytes.
 const SIZE_OF_RECORD: u64 = 64;
@@ -135,7 +137,28 @@ pub struct Modules<'a> {
 impl<'a> Steps<Range, PdbModule> for Modules<'a> {
     ghost steps = { λ s. Numbered pdb_number (StepsModules s.dbi.now) };
 
-    fn step(&self, walk: &mut Range) -> Result<Option<PdbModule>, u32> {
+    fn step(&self, walk: &mut Range) -> std::result::Result<Option<PdbModule>, u32> {
         numbered_pdb(next_module(self.dbi, walk))
     }
+}
+
+/// The contributions in a range of the DBI stream.
+fn contributions_at<'a>(dbi: &'a [u8], contributions: &Range) -> Result<SectionContributions<'a>>
+    ensures { PdbReturns contributions_view result (contributions_at dbi.entry.now contributions.now) }
+{
+    SectionContributions::parse(part_of(dbi, contributions)?)
+}
+
+/// Both, whichever is refused first.
+pub fn module_rows<'a>(
+    dbi: &'a [u8],
+    contributions: &Range,
+    sections: &'a [u8],
+) -> Result<(SectionHeaders<'a>, SectionContributions<'a>)>
+    ensures { PdbReturns (λ x. (x.0.bytes.now, contributions_view x.1)) result
+        (module_rows dbi.entry.now contributions.now sections.entry.now) }
+{
+    let sections = SectionHeaders::parse(sections)?;
+    let rows = contributions_at(dbi, contributions)?;
+    Ok((sections, rows))
 }

@@ -9,7 +9,7 @@ use Rattle.pe_records.specs.DebugDirectory.{debug_entry_at}
 use Rattle.pe_unwind.specs.EntriesAfter.{scopes_after}
 use Rattle.pe_unwind.specs.ScopeTable.{scope_at}
 use Rattle.calls_unwind.specs.Arm64.{flat_scope_at}
-use Rattle.calls_headers.specs.RichHeaders.{rich_entry_at}
+use Rattle.calls_headers.specs.Headers.{rich_entry_at}
 use Rattle.calls_base.specs.Runs.{ReturnsItems}
 use Rattle.calls_base.specs.Walks.{StepsEntries, walk_items}
 use Rattle.calls_base.specs.declared.ranges.Range.{Range}

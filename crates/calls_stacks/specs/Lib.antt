@@ -6,9 +6,6 @@ pub mod FunctionNames
 pub mod StackWalks
 pub mod Arm64StackWalks
 pub mod Dumps
-pub mod DumpImages
 pub mod DumpRecords
-pub mod DumpRuns
 pub mod DumpMemory
 pub mod DumpContexts
-pub mod AnyRecords

@@ -8,7 +8,6 @@ ghost use Rattle.pe_minidump.specs.Refusals.{dump_kind_of};
 
 pub mod any_record;
 pub mod contexts;
-pub mod images;
 pub mod lists;
 pub mod memory;
 pub mod memory_runs;

@@ -12,8 +12,7 @@ use Rattle.calls_base.proofs.FilledLists.{StepsAs, ends_list, hands_out_if, kept
 use Rattle.calls_unwind.specs.CodeBytes.{EndsCodes, HasCodes, PutsCodes, ReturnsAny, StepsBytes, stream_in, stream_last}
 use Rattle.calls_base.specs.HandsOut.{result_number}
 use Rattle.calls_base.specs.Lists.{HandsOutListIf, Numbered, PutsList, Stops, Takes, by_number}
-use Rattle.calls_unwind.specs.RecordCodes.{EndsAll, HandsOutAll, StepsStream}
-use Rattle.calls_unwind.specs.Unwinding.{flat_answer}
+use Rattle.calls_unwind.specs.Unwinding.{EndsAll, HandsOutAll, StepsStream, flat_answer}
 use Rattle.calls_unwind.specs.declared.lists.x64.CodeBytes.{CodeBytes}
 use Rattle.calls_unwind.specs.declared.lists.x64.PutCodes.{PutCodes}
 use Rattle.calls_base.specs.declared.results.TheConstants.{ROOM}

@@ -19,6 +19,7 @@ use Rattle.pe_unwind.specs.declared.arm64.codes.Arm64UnwindCode.TheVariants.{All
 use Rattle.pe_unwind.specs.declared.arm64.codes.Arm64UnwindCodeData.{Arm64UnwindCodeData}
 use Rattle.pe_unwind.specs.declared.arm64.function.Arm64RuntimeFunction.{Arm64RuntimeFunction}
 use Rattle.calls_base.specs.HandsOut.{HandsOutIf}
+use Rattle.calls_base.specs.Images.{exception_directory}
 use Rattle.calls_base.specs.Modes.{options_of}
 use Rattle.calls_base.specs.Ranges.{no_bytes, range_after, last_range, bytes_at}
 use Rattle.calls_unwind.specs.declared.arm64.codes.Arm64Code.{Arm64Code}
@@ -26,7 +27,6 @@ use Rattle.calls_unwind.specs.declared.arm64.codes.Arm64CodeWalk.{Arm64CodeWalk}
 use Rattle.calls_unwind.specs.declared.arm64.functions.Arm64Packed.{Arm64Packed}
 use Rattle.calls_unwind.specs.declared.arm64.records.Arm64Record.{Arm64Record}
 use Rattle.calls_unwind.specs.declared.arm64.records.Arm64Scope.{Arm64Scope}
-use Rattle.calls_base.specs.Images.{exception_directory}
 use Rattle.calls_base.specs.declared.image.Image.{Image}
 use Rattle.calls_base.specs.declared.ranges.Range.{Range}
 

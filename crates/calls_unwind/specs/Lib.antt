@@ -1,6 +1,4 @@
 pub mod Arm64
 pub mod Plans
 pub mod Unwinding
-pub mod RecordCodes
 pub mod CodeBytes
-pub mod NearRecords

@@ -1,5 +1,5 @@
 -- The functions of x64 images, and how their frames are unwound.
-use Rattle.std.specs.Prelude.{◌≡◌, ℕ, ◌+◌, ◌-◌, ◌==◌, ◌≤◌, length, drop, List, [], ◌∷◌, Option, Some, None, Result, Ok, Err, if◌then◌else◌}
+use Rattle.std.specs.Prelude.{◌≡◌, ℕ, ◌+◌, ◌-◌, ◌==◌, ◌≤◌, length, drop, List, [], ◌∷◌, Option, Some, None, Result, Ok, Err, if◌then◌else◌, Bool, true, false, ◌⊎◌, ◌<◌, ◌++◌}
 use Rattle.std.specs.Option.{option_map}
 use Rattle.pe_core.specs.Refusals.{Refusal, kind_of, outcome, ◌>>=◌}
 use Rattle.pe_core.specs.declared.error.Error.{Error}
@@ -22,13 +22,15 @@ use Rattle.pe_unwind.specs.declared.unwind_code.UnwindOperation.TheVariants.{Pus
 use Rattle.pe_frame.specs.Undoing.{bytes_above}
 use Rattle.calls_base.specs.Ranges.{one_if_some, no_bytes, range_of, last_range, bytes_at}
 use Rattle.calls_base.specs.Images.{exception_directory, is_absent}
-use Rattle.calls_base.specs.HandsOut.{HandsOut, HandsOutIf}
 use Rattle.calls_base.specs.Modes.{options_of}
+use Rattle.calls_base.specs.HandsOut.{HandsOut, HandsOutIf, result_number}
 use Rattle.calls_base.specs.declared.image.Image.{Image}
 use Rattle.calls_base.specs.declared.ranges.Range.{Range}
 use Rattle.calls_unwind.specs.declared.unwinding.Code.{Code}
 use Rattle.calls_unwind.specs.declared.unwinding.CodeWalk.{CodeWalk}
 use Rattle.calls_unwind.specs.declared.unwinding.UnwindRecord.{UnwindRecord}
+use Rattle.calls_base.specs.Lists.{Numbered, Takes}
+use Rattle.calls_base.specs.declared.results.TheConstants.{DONE, ROOM}
 
 -- ---- function tables
 
@@ -215,3 +217,38 @@ HandsOutCode b old_walk new_walk number old new =
 -- the range of the scope table in a handler's data, which follows its count
 abbrev pub scopes_at : List ℕ → Range → Result (Option Range) Refusal
 scopes_at b r = bytes_at b r >>= λ d. Ok (option_map (λ n. record { offset = r.offset + 4; length = n }) (scope_table_size d))
+
+-- ---- unwind records that are written without what others take. Only contracts of private functions cite it.
+
+-- a walk over the codes of the record at offset p, which have so many bytes
+abbrev pub codes_after : ℕ → ℕ → ℕ → ℕ → CodeWalk
+codes_after p size version frame = record { left = record { offset = p + 4; length = size }; version = version; frame_register = frame; spare = six_zeros }
+
+-- the record at offset p is written, or nothing is
+abbrev pub PutsRecord : List ℕ → ℕ → Bool → UnwindRecord → UnwindRecord → Type 0
+PutsRecord b p true old new = flat_record_at b p ≡ Ok new
+PutsRecord b p false old new = new ≡ old
+
+-- ---- all codes of a record in one call
+
+-- the codes in some bytes, of a record of this version with this frame register
+abbrev pub code_stream : List ℕ → ℕ → ℕ → CodeStream
+code_stream b version frame = record { content = b; version = version; frame = frame }
+
+-- a step over them, as callers get it
+abbrev pub StepsStream : CodeStream → Result (Option Code) Refusal → CodeStream → Type 0
+StepsStream s answer t = (given : Option (Result UnwindCode Error)) × ReturnsCode s given t × (answer ≡ flat_answer given)
+
+-- why a call returns n codes in room for so many, and this number: none are left; there is no room for those that are; or the next
+-- one is refused, which has this number
+abbrev pub EndsAll : ℕ → ℕ → ℕ → CodeStream → Type 0
+EndsAll number n room t =
+    ((number ≡ DONE) × (length t.content ≡ 0))
+    ⊎ (((number ≡ ROOM) × (n ≡ room) × (0 < length t.content))
+    ⊎ ((n < room) × ((next : CodeStream) × Numbered result_number StepsStream t (Err number) next)))
+
+-- what a call returns of all codes: these, one after the other, at the start of the array, and their number
+abbrev pub HandsOutAll : CodeStream → ℕ → List Code → List Code → ℕ → Type 0
+HandsOutAll s number old new written =
+    (codes : List Code) × (left : CodeStream) × Takes (Numbered result_number StepsStream) s codes left × EndsAll number (length codes) (length old) left
+    × (new ≡ codes ++ drop (length codes) old) × (written ≡ length codes)

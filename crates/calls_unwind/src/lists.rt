@@ -4,5 +4,4 @@
 //!
 //! The list is that of the steps, whatever they walk over: one loop makes all of these calls.
 
-pub mod arm64;
 pub mod x64;

@@ -14,8 +14,7 @@ ghost use Rattle.pe_unwind.specs.UnwindRecord.{unwind_view};
 ghost use Rattle.calls_base.specs.HandsOut.{HandsOut};
 ghost use Rattle.calls_base.specs.Ranges.{bytes_at, one_if_some};
 ghost use Rattle.pe_frame.specs.Undoing.{bytes_above};
-ghost use Rattle.calls_unwind.specs.NearRecords.{PutsRecord, codes_after};
-ghost use Rattle.calls_unwind.specs.Unwinding.{exception_table_at, function_in, machine_table_at, or_no_function, handler_kind, handler_address, handler_range, flat_record, flat_record_at, FindsOffset, FollowsToRecord, HandsOutRecord, links_at, from_frame, saving, plain, flat, StepsOver, WalksIn, scopes_at};
+ghost use Rattle.calls_unwind.specs.Unwinding.{PutsRecord, codes_after, exception_table_at, function_in, machine_table_at, or_no_function, handler_kind, handler_address, handler_range, flat_record, flat_record_at, FindsOffset, FollowsToRecord, HandsOutRecord, links_at, from_frame, saving, plain, flat, StepsOver, WalksIn, scopes_at};
 ghost use Rattle.calls_base.specs.Views.{directory_sections, map_of};
 ghost use Rattle.calls_base.specs.Walks.{next_of, walk_of};
 

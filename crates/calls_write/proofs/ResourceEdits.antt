@@ -12,9 +12,8 @@ use Rattle.pe_rewrite.specs.RewriteRefusals as rewrites
 use Rattle.pe_version.specs.VersionRefusals.{VersionRefusal, block_of}
 use Rattle.pe_version.specs.VersionRefusals as versions
 use Rattle.pe_version.specs.WrittenBlocks.{BlockValue}
-use Rattle.calls_write.specs.ResourceEdits.{edited_at, records_numbered, rewrite_number}
+use Rattle.calls_write.specs.ResourceEdits.{edited_at, records_numbered, rewrite_number, block_at, version_number, version_numbered}
 use Rattle.calls_write.specs.Signing.{headers_numbered}
-use Rattle.calls_write.specs.VersionWrites.{block_at, version_number, version_numbered}
 use Rattle.calls_base.specs.WrittenFiles.{length_numbered, numbered, written_numbered}
 use Rattle.calls_base.specs.declared.image.Image as images
 

@@ -1,12 +1,12 @@
 -- What calls return that write an image. They read the headers and the certificates from the bytes, in the mode of the image that
 -- is passed; the sections are those that are passed.
-use Rattle.std.specs.Prelude.{◌≡◌, ℕ, List, Result, Ok}
+use Rattle.std.specs.Prelude.{◌≡◌, ℕ, List, Result, Ok, ◌==◌, Option, Some, None, if◌then◌else◌}
 use Rattle.pe_core.specs.Header.{HeaderView}
 use Rattle.pe_core.specs.Refusals.{Refusal, ◌>>=◌}
 use Rattle.pe_core.specs.Sections.{sections_at}
 use Rattle.pe_records.specs.Certificates.{CertificateView}
 use Rattle.pe_image.specs.Fields.{certificate_field, list_by_mode}
-use Rattle.pe_image.specs.Writing.{certificates_by, image_by, image_length_by, whole_by, whole_length_by}
+use Rattle.pe_image.specs.Writing.{certificates_by, image_by, image_length_by, whole_by, whole_length_by, sections_written}
 use Rattle.calls_base.specs.Images.{image_at}
 use Rattle.calls_base.specs.Modes.{mode_of_number, options_of}
 use Rattle.calls_write.specs.Signing.{headers_of}
@@ -45,3 +45,13 @@ pub record IsViewOf (b : List ℕ) (mode : ℕ) (v : View) : Type 0 where
   pub bytes : v.bytes.now ≡ b
   pub image : image_at b mode ≡ Ok v.image.now
   pub sections : sections_at b v.image.now.sections_offset v.image.now.number_of_sections ≡ Ok v.sections.now
+
+-- ---- what a call returns that writes sections
+
+-- the unit of which the zeros after a section fill a multiple; none for 0
+abbrev pub unit_of : ℕ → Option ℕ
+unit_of n = if n == 0 then None else Some n
+
+-- the sections of the view over the old bytes, with their headers from an offset on: as pe_image writes them
+abbrev pub sections_written_at : View → ℕ → ℕ → List ℕ → Result (ℕ × List ℕ) Refusal
+sections_written_at v unit offset old = sections_written v.bytes.now v.sections.now (unit_of unit) offset old

@@ -1,5 +1,3 @@
 pub mod Signing
 pub mod ResourceEdits
-pub mod VersionWrites
-pub mod SectionWrites
 pub mod ImageWrites

@@ -1,5 +1,5 @@
 -- What calls return that change resources. A refusal is the number of the error.
-use Rattle.std.specs.Prelude.{ℕ, List, Result, map}
+use Rattle.std.specs.Prelude.{ℕ, List, Result, map, ◌==◌, not}
 use Rattle.pe_core.specs.Refusals.{◌>>=◌, outcome}
 use Rattle.pe_edit.specs.EditRefusals.{EditRefusal}
 use Rattle.pe_edit.specs.EditRefusals as edits
@@ -14,6 +14,9 @@ use Rattle.calls_base.specs.HandsOut.{result_number}
 use Rattle.calls_write.specs.Signing.{headers_numbered}
 use Rattle.calls_base.specs.WrittenFiles.{numbered}
 use Rattle.calls_base.specs.declared.image.Image as images
+use Rattle.pe_version.specs.VersionRefusals.{VersionRefusal, block_of}
+use Rattle.pe_version.specs.VersionRefusals as versions
+use Rattle.pe_version.specs.WrittenBlocks.{BlockValue}
 
 -- the numbers of refusals, written by tools/make_errors
 abbrev pub edit_number : EditRefusal → ℕ
@@ -56,3 +59,24 @@ records_numbered d rs = numbered record_number (outcome (record_tests d rs) tt)
 abbrev pub edited_at : List ℕ → images.Image → List ℕ → List ResourceRecord → Result (List ℕ) ℕ
 edited_at b image d rs =
     headers_numbered b image >>= λ h. records_numbered d rs >>= λ u. numbered rewrite_number (edited_of b h (map (record_leaf d) rs))
+
+-- ---- what calls return that write version information. A refusal is the number of the error.
+
+-- the numbers of refusals, written by tools/make_errors
+abbrev pub version_number : VersionRefusal → ℕ
+version_number (versions.Image refusal) = result_number refusal
+version_number versions.Key = 468
+version_number versions.Text = 469
+version_number versions.TooLong = 470
+
+-- a block by the arguments of a call
+abbrev pub block_with : List ℕ → ℕ → List ℕ → List ℕ → BlockValue
+block_with key is_text value children = record { key = key; is_text = not (is_text == 0); value = value; children = children }
+
+-- its bytes, as pe_version writes them
+abbrev pub block_at : BlockValue → Result (List ℕ) ℕ
+block_at k = numbered version_number (block_of k)
+
+-- what pe_version writes, or the number of its refusal
+abbrev pub version_numbered : Result (List ℕ) VersionRefusal → Result (List ℕ) ℕ
+version_numbered made = numbered version_number made

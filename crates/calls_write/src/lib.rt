@@ -4,6 +4,5 @@
 
 pub mod image;
 pub mod resources;
-pub mod sections;
 pub mod signing;
 pub mod version;

@@ -4,7 +4,7 @@
 
 ghost use Rattle.std.specs.Prelude.{◌≡◌};
 ghost use Rattle.pe_version.specs.VersionRefusals.{block_view, version_kind_of};
-ghost use Rattle.calls_write.specs.VersionWrites.{block_at, version_numbered, version_number};
+ghost use Rattle.calls_write.specs.ResourceEdits.{block_at, version_numbered, version_number};
 ghost use Rattle.calls_base.specs.WrittenFiles.{NumberReturns, NumberReturnsWritten, length_numbered, written_numbered};
 ghost use Rattle.pe_version.specs.VersionRecords.{records_version};
 

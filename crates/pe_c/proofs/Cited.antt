@@ -11,8 +11,8 @@ pub use Rattle.calls_base.proofs.WrittenFiles.{file_asked, file_short_after}
 pub use Rattle.calls_base.specs.DirectoryResults.{directory_number}
 pub use Rattle.calls_base.specs.HandsOut.{HandsOutIf, result_number}
 pub use Rattle.calls_base.specs.Images.{debug_directory, is_absent, image_info_by, image_info_of, or_absent, directory, map_of_image, export_directory, all_directories, import_directory, image_at}
-pub use Rattle.calls_base.specs.Lists.{StepsByIndex, HandsOutList, Numbered}
 pub use Rattle.calls_base.specs.Modes.{options_of, resolves, mode_of_number}
+pub use Rattle.calls_base.specs.Lists.{StepsByIndex, HandsOutList, Numbered}
 pub use Rattle.calls_base.specs.Ranges.{IsPart, IsRange, range_of, one_if_some, range_from}
 pub use Rattle.calls_base.specs.Runs.{ReturnsReported, ReturnsItems, IsOver}
 pub use Rattle.calls_base.specs.declared.image.Image.{Image}
@@ -49,7 +49,7 @@ pub use Rattle.calls_stacks.specs.Dumps.{DumpHandsOut, DumpHandsOutIf, dump_stre
 pub use Rattle.calls_stacks.specs.StackWalks.{stack_walks}
 pub use Rattle.calls_unwind.proofs.RecordRanges.{of_offset}
 unfoldable pub use Rattle.calls_unwind.specs.Unwinding.{exception_table_at}
-pub use Rattle.calls_write.specs.VersionWrites.{block_at, block_with}
+pub use Rattle.calls_write.specs.ResourceEdits.{block_at, block_with}
 pub use Rattle.pe_core.proofs.Comparisons.{not_below}
 pub use Rattle.pe_core.proofs.EntryItems.{length-each, each_as_map, each_front, each_same, none_of_none}
 pub use Rattle.pe_core.proofs.NumberBytes.{bytes_of-le, range_join, le_small}

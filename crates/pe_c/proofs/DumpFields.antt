@@ -1,7 +1,7 @@
 -- What functions of pe.h return that take one field of what a call of minidumps writes.
 use Rattle.std.proofs.Common.{◌≡◌, ℕ, Option, Result, Ok, arith}
 use Rattle.pe_c.proofs.Cited.{◌>>=◌, DumpRefusal, DumpHandsOut, DumpHandsOutIf}
-use Rattle.calls_stacks.specs.AnyRecords.{alone, in_field}
+use Rattle.calls_stacks.specs.DumpRecords.{alone, in_field}
 use Rattle.calls_stacks.specs.declared.dump.any_record.AnyRecord.{AnyRecord}
 
 -- a record of a list

@@ -1,7 +1,6 @@
 -- What calls return of the stacks of a minidump is what pe_stacks returns.
 use Rattle.std.proofs.Common.{◌≡◌, ℕ, List, Option, Some, None, Result, Ok, Err, refl, ap, sym, ◌∙◌, arith}
-use Rattle.pe_c.proofs.Cited.{range, HeaderView, ◌>>=◌, DumpView, located, DumpRefusal, raised_of, thread_context_at, as_reported}
-use Rattle.pe_c.proofs.Cited.{module_reported, image_info_of, Range}
+use Rattle.pe_c.proofs.Cited.{range, HeaderView, ◌>>=◌, DumpView, located, DumpRefusal, raised_of, thread_context_at, as_reported, module_reported, image_info_of, Range}
 use Rattle.pe_frame.specs.declared.memory_list.MemoryPiece.{MemoryPiece}
 use Rattle.pe_minidump.specs.Streams.{exception}
 use Rattle.pe_minidump.specs.declared.exception.Exception.{Exception}
@@ -11,8 +10,7 @@ use Rattle.pe_minidump.specs.declared.thread.Thread.{Thread}
 use Rattle.pe_stacks.specs.Images.{is_image_of}
 use Rattle.pe_stacks.specs.MemoryRuns.{bytes_at}
 use Rattle.pe_stacks.specs.ThreadContexts.{context_at, first_of, or_else, raised_by, thread_context}
-use Rattle.calls_stacks.specs.DumpImages.{fits}
-use Rattle.calls_stacks.specs.DumpRuns.{range_in}
+use Rattle.calls_stacks.specs.DumpMemory.{fits, range_in}
 
 -- ---- contexts
 

@@ -1,13 +1,8 @@
 -- The libraries of an image are those whose names the walk over libraries returns.
 use Rattle.std.proofs.Common.{◌≡◌, ℕ, ◌≤◌, ◌^◌, Bool, true, false, List, [], ◌∷◌, length, map, Option, Some, None, Result, Ok, Err, sym, ap, subst, arith}
-use Rattle.pe_c.proofs.Cited.{◌==◌, ◌↔◌, AllZip, option_map, given, same_inside, AreBytes, HeaderView, AreLibraries}
-use Rattle.pe_c.proofs.Cited.{ImportRecordView, ImportView, entry_size, Refusal, sections_at, ParseMode, ParseOptions, SectionTable}
-use Rattle.pe_c.proofs.Cited.{AreLibrariesOf, ImageView, IsImage, libraries_move, one_range, ReportsOne, one_run, one_zip}
-use Rattle.pe_c.proofs.Cited.{same_values, header_of, IsImageAfter, IsImageWith, Parts, image_of_parts, mode_of, part_by_mode}
-use Rattle.pe_c.proofs.Cited.{AreImportsAfter, AreImportsBy, IsLibrary, in_turn, image_at, map_of_image, StepsLibraries}
-use Rattle.pe_c.proofs.Cited.{libraries_at, Image, Libraries, Library}
+use Rattle.pe_c.proofs.Cited.{◌==◌, ◌↔◌, AllZip, option_map, given, same_inside, AreBytes, HeaderView, AreLibraries, ImportRecordView, ImportView, entry_size, Refusal, sections_at, ParseMode, ParseOptions, SectionTable, AreLibrariesOf, ImageView, IsImage, libraries_move, one_range, ReportsOne, one_run, one_zip, same_values, header_of, IsImageAfter, IsImageWith, Parts, image_of_parts, mode_of, part_by_mode, AreImportsAfter, AreImportsBy, IsLibrary, in_turn, image_at, map_of_image, StepsLibraries, libraries_at, Image, Libraries, Library}
 use Rattle.pe_c.proofs.ImagesByCalls.{SomeResource, image_of_calls}
-use Rattle.pe_c.specs.LibrariesOfCalls.{AreLibrariesOfCalls, AreNamesAfter, AreNamesBy, IsNameOf}
+use Rattle.pe_c.specs.ImageOfCalls.{AreLibrariesOfCalls, AreNamesAfter, AreNamesBy, IsNameOf}
 
 -- records and imports
 abbrev Found : Type 0

@@ -2,7 +2,7 @@
 use Rattle.std.proofs.Common.{◌≡◌, ℕ, Option, Some, None, Result, Ok, Err, ap, ◌∙◌}
 use Rattle.pe_c.proofs.Cited.{option_map, ◌>>=◌, SignatureHandsOut, SignatureHandsOutIf}
 use Rattle.pe_c.specs.AnyParts.{in_field}
-use Rattle.pe_c.specs.declared.signatures.parts.AnyPart.{AnyPart}
+use Rattle.pe_c.specs.declared.signatures.AnyPart.{AnyPart}
 use Rattle.calls_signatures.specs.declared.refused.SignatureFailure.{SignatureFailure}
 
 module _ {X : Type 0} (put : X → AnyPart) (get : AnyPart → X) (same : (x : X) → get (put x) ≡ x) (number : ℕ) (f g : SignatureFailure) (old new : AnyPart) where

@@ -5,7 +5,7 @@ use Rattle.pe_pdb.specs.Ids.{types_of}
 use Rattle.pe_pdb.specs.Refusals.{PdbRefusal}
 use Rattle.pe_pdb.specs.declared.inline_rows.InlineRow.{InlineRow}
 use Rattle.pe_pdb.specs.declared.inlinee.InlineeLine.{InlineeLine}
-use Rattle.pe_c.specs.PdbFrames.{all_named, all_placed, named, placed, with_lines}
+use Rattle.pe_c.specs.DumpLaws.{all_named, all_placed, named, placed, with_lines}
 use Rattle.calls_pdb.specs.PdbInlined.{bare, inlined_by, inlined_functions, inlinee_in, inlinees_at, line_put, name_found, name_put, stack_at}
 use Rattle.calls_pdb.specs.declared.inlined.FunctionName.{FunctionName}
 use Rattle.calls_pdb.specs.declared.inlined.PdbInlined.{PdbInlined}

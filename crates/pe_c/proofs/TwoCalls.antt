@@ -1,12 +1,9 @@
 -- What functions of pe.h return that make two calls.
 use Rattle.std.proofs.Common.{◌≡◌, ℕ, Bool, true, false, List, Option, Some, None, Result, Ok, Err, refl, ◌==◌, arith}
-use Rattle.pe_c.proofs.Cited.{option_map, IsWithin, Refusal, ◌>>=◌, ByteRange, SectionTable, IsContentRange, section_map}
-use Rattle.pe_c.proofs.Cited.{FirstDirectoryView, IsOfFirst, first_directory, VsFixedFileInfo, HandsOutIf, HandsOutBlocks}
-use Rattle.pe_c.proofs.Cited.{HandsOutFixed, HandsOutText, IsContentBy, IsContentOf, content_at, fixed_at, fixed_in, text_in}
-use Rattle.pe_c.proofs.Cited.{value_at, options_of, range_of, Image, Range}
+use Rattle.pe_c.proofs.Cited.{option_map, IsWithin, Refusal, ◌>>=◌, ByteRange, SectionTable, IsContentRange, section_map, FirstDirectoryView, IsOfFirst, first_directory, VsFixedFileInfo, HandsOutIf, HandsOutBlocks, HandsOutFixed, HandsOutText, IsContentBy, IsContentOf, content_at, fixed_at, fixed_in, text_in, value_at, options_of, range_of, Image, Range}
 use Rattle.pe_resource.specs.declared.version.VersionName.{VersionName}
 use Rattle.pe_c.proofs.ImageResources.{content_is, content_within}
-use Rattle.pe_c.specs.TwoCalls.{GoesOn, Joins}
+use Rattle.pe_c.specs.DebugLaws.{GoesOn, Joins}
 use Rattle.calls_base.specs.Images.{resource_directory}
 
 -- ---- version information

@@ -4,11 +4,11 @@ use Rattle.std.specs.Option.{option_map}
 use Rattle.pe_core.specs.Refusals.{◌>>=◌}
 use Rattle.calls_base.specs.declared.ranges.Range.{Range}
 use Rattle.calls_signatures.specs.NameWalks.{name_in}
-use Rattle.calls_signatures.specs.SignatureParts.{algorithm_in}
+use Rattle.calls_signatures.specs.SignatureParts.{algorithm_in, SignatureHandsOut, SignatureHandsOutIf}
 use Rattle.calls_signatures.specs.Signatures.{attribute_in, image_data_in, indirect_data_in, opus_info_in, signature_in, signer_in, time_in, time_stamp_in}
 use Rattle.calls_signatures.specs.X509.{extension_in, key_usage_in, x509_in}
-use Rattle.pe_c.specs.declared.signatures.parts.AnyPart.{AnyPart}
-use Rattle.pe_c.specs.declared.signatures.parts.TheConstants.{PART_ALGORITHM, PART_ATTRIBUTE, PART_EXTENSION, PART_IMAGE_DATA, PART_INDIRECT_DATA, PART_KEY_USAGE, PART_NAME, PART_OPUS_INFO, PART_SIGNATURE, PART_SIGNER, PART_TIME, PART_TIME_STAMP, PART_X509}
+use Rattle.pe_c.specs.declared.signatures.AnyPart.{AnyPart}
+use Rattle.pe_c.specs.declared.signatures.TheConstants.{PART_ALGORITHM, PART_ATTRIBUTE, PART_EXTENSION, PART_IMAGE_DATA, PART_INDIRECT_DATA, PART_KEY_USAGE, PART_NAME, PART_OPUS_INFO, PART_SIGNATURE, PART_SIGNER, PART_TIME, PART_TIME_STAMP, PART_X509}
 use Rattle.calls_signatures.specs.declared.refused.SignatureFailure.{SignatureFailure}
 
 -- a part as the field of its kind, with the other fields as they were
@@ -32,3 +32,19 @@ any_part kind b r old =
     else if kind == PART_TIME then in_field (λ x. record old { time = x }) (time_in b r)
     else if kind == PART_TIME_STAMP then in_field (λ x. record old { time_stamp = x }) (time_stamp_in b r)
     else Ok None
+
+-- ---- what functions of pe.h return that take one field of what the call for parts of a signature writes
+
+-- where a call returned the part of a kind, this field and the number are those of a call that reads such a part
+abbrev pub ReadsField : {X : Type 0} → ℕ → (AnyPart → X) → (List ℕ → Range → Result X SignatureFailure) → Type 0
+ReadsField kind field read =
+    (b : List ℕ) (r : Range) (number : ℕ) (failed failed_after : SignatureFailure) (old new : AnyPart) →
+    SignatureHandsOutIf number failed failed_after old new (any_part kind b r old) →
+    SignatureHandsOut number failed failed_after (field old) (field new) (read b r)
+
+-- the same of a part that may be absent
+abbrev pub ReadsFieldIf : {X : Type 0} → ℕ → (AnyPart → X) → (List ℕ → Range → Result (Option X) SignatureFailure) → Type 0
+ReadsFieldIf kind field read =
+    (b : List ℕ) (r : Range) (number : ℕ) (failed failed_after : SignatureFailure) (old new : AnyPart) →
+    SignatureHandsOutIf number failed failed_after old new (any_part kind b r old) →
+    SignatureHandsOutIf number failed failed_after (field old) (field new) (read b r)

@@ -1,5 +1,5 @@
 -- Debug records by themselves: which bytes the record of an entry has, and what images have in common that differ elsewhere.
-use Rattle.std.specs.Prelude.{◌≡◌, ℕ, ◌+◌, ◌<◌, ◌==◌, ◌⊎◌, List, length, slice_index, false, Option, Some, None, Result, Ok, if◌then◌else◌}
+use Rattle.std.specs.Prelude.{◌≡◌, ℕ, ◌+◌, ◌<◌, ◌==◌, ◌⊎◌, List, length, slice_index, false, Option, Some, None, Result, Ok, if◌then◌else◌, Bool, true}
 use Rattle.std.specs.List.{AllZip}
 use Rattle.std.specs.Option.{IsSome}
 use Rattle.pe_core.specs.Bytes.{le}
@@ -15,6 +15,12 @@ use Rattle.calls_base.specs.Modes.{options_of, resolves}
 use Rattle.calls_base.specs.Ranges.{IsPart}
 use Rattle.calls_base.specs.declared.image.Image.{Image}
 use Rattle.calls_base.specs.declared.ranges.Range.{Range}
+use Rattle.pe_resource.specs.declared.version.VersionName.{VersionName}
+use Rattle.pe_resource.specs.declared.version.VsFixedFileInfo.{VsFixedFileInfo}
+use Rattle.calls_base.specs.HandsOut.{HandsOutIf}
+use Rattle.calls_directories.specs.VersionBlocks.{HandsOutBlocks}
+use Rattle.calls_directories.specs.Versions.{HandsOutFixed, HandsOutText, fixed_in, text_in}
+use Rattle.calls_base.specs.declared.results.TheConstants.{DONE}
 
 -- ---- the bytes of a record, as many from its offset on
 
@@ -87,3 +93,28 @@ abbrev pub ReportsPart : {X Y : Type 0} → (ParseOptions → List ℕ → Image
 ReportsPart {X} {Y} record_of read range_of part_of =
     (b : List ℕ) (mode : ℕ) (e : ImageDebugDirectory) (y : Y) → read b mode e ≡ Ok (Some y) →
     (x : X) × (record_of (options_of mode) b e ≡ Ok x) × IsPart b (range_of y) (part_of x)
+
+-- ---- functions of pe.h that make two calls, the second over what the first writes
+
+-- by whether the first call is done: the second over what that wrote, else its number, and nothing is written
+abbrev pub GoesOn : {X Y : Type 0} → (X → ℕ → Y → Y → Type 0) → Bool → ℕ → X → ℕ → Y → Y → Type 0
+GoesOn Second true n found number old new = Second found number old new
+GoesOn Second false n found number old new = (number ≡ n) × (new ≡ old)
+
+-- what such a function returns, and what it writes
+abbrev pub Joins : {X Y : Type 0} → (ℕ → X → X → Type 0) → (X → ℕ → Y → Y → Type 0) → ℕ → Y → Y → Type 0
+Joins {X} First Second number old new = (n : ℕ) × (before : X) × (found : X) × First n before found × GoesOn Second (n == DONE) n found number old new
+
+-- the first version information, and then its fixed file information
+abbrev pub ReadsFixed : Type 0
+ReadsFixed =
+    (b : List ℕ) (image : Image) (may_map : ℕ → List SectionTable) (mode number : ℕ) (old new : VsFixedFileInfo) →
+    Joins (HandsOutBlocks b image may_map mode) (λ content n k l. HandsOutIf n k l (fixed_in b content)) number old new →
+    HandsOutFixed b image may_map mode number old new
+
+-- the same, and then the value of a name
+abbrev pub ReadsText : Type 0
+ReadsText =
+    (b : List ℕ) (image : Image) (may_map : ℕ → List SectionTable) (mode : ℕ) (name : VersionName) (number : ℕ) (old new : Range) →
+    Joins (HandsOutBlocks b image may_map mode) (λ content n k l. HandsOutIf n k l (text_in b content (Some name))) number old new →
+    HandsOutText b image may_map mode (Some name) number old new

@@ -1,6 +1,6 @@
 -- The headers of an image, read of what `pe_c_headers` returns: each number is that of a field, the bytes of the DOS header between
 -- its signature and its pointer are those of its numbers, and the stub is a range.
-use Rattle.std.specs.Prelude.{ℕ, ◌==◌, List, ◌∷◌, ◌++◌, take, Option, Some, None, if◌then◌else◌}
+use Rattle.std.specs.Prelude.{ℕ, ◌==◌, List, ◌∷◌, ◌++◌, take, Option, Some, None, if◌then◌else◌, Result, Ok}
 use Rattle.std.specs.List.{flat_map}
 use Rattle.pe_core.specs.Bytes.{bytes_of, range}
 use Rattle.pe_core.specs.Header.{HeaderView, OptionalHeaderView}
@@ -10,6 +10,13 @@ use Rattle.calls_headers.specs.Coff.{coff_header_of}
 use Rattle.calls_headers.specs.declared.headers.DosFields.{DosFields}
 use Rattle.calls_headers.specs.declared.headers.Headers.{Headers}
 use Rattle.calls_headers.specs.declared.headers.OptionalFields.{OptionalFields}
+use Rattle.pe_core.specs.Refusals.{Refusal}
+use Rattle.calls_base.specs.Views.{directory_sections}
+use Rattle.calls_base.specs.declared.ranges.Range.{Range}
+use Rattle.calls_base.specs.declared.view.View.{View}
+use Rattle.calls_headers.specs.Debug.{debug_entries_range}
+use Rattle.calls_headers.specs.Headers.{overlay_at, strings_at}
+use Rattle.pe_c.specs.declared.headers.TheConstants.{RANGE_DEBUG_ENTRIES, RANGE_OVERLAY, RANGE_STRING_TABLE}
 
 -- the numbers of a DOS header between its signature and its pointer, in the order in which they stand, 16 bits each
 abbrev pub dos_numbers : DosFields → List ℕ
@@ -71,3 +78,13 @@ header_of b x = record {
   coff_header = coff_header_of x.coff;
   optional_header = optional_of x;
 }
+
+-- ---- the ranges of an image by their kinds, as one call returns them
+
+-- the range of a kind; none of another kind
+abbrev pub image_range : ℕ → View → Result (Option Range) Refusal
+image_range kind v =
+    if kind == RANGE_OVERLAY then Ok (overlay_at v.bytes.now v.image.now v.sections.now)
+    else if kind == RANGE_STRING_TABLE then strings_at v.bytes.now v.image.now
+    else if kind == RANGE_DEBUG_ENTRIES then debug_entries_range v.bytes.now v.image.now (directory_sections v 6) v.image.now.mode
+    else Ok None

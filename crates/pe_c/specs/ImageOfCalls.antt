@@ -1,10 +1,10 @@
 -- An image by the calls, in the order and by the modes of `PE`: headers, section headers, exports and imports; then debug
 -- data, exception data, base relocations, certificates and resources, of which permissive mode leaves out what is refused.
-use Rattle.std.specs.Prelude.{◌≡◌, ℕ, ◌/◌, ◌%◌, ◌==◌, List, [], Bool, true, false, Option, None, Result, Ok, Err, unwrap_or, option_and_then}
+use Rattle.std.specs.Prelude.{◌≡◌, ℕ, ◌/◌, ◌%◌, ◌==◌, List, [], Bool, true, false, Option, None, Result, Ok, Err, unwrap_or, option_and_then, map, Some}
 use Rattle.std.specs.Option.{option_map}
 use Rattle.pe_core.specs.Exports.{ExportDataView, ExportView}
 use Rattle.pe_core.specs.Header.{HeaderView}
-use Rattle.pe_core.specs.Imports.{ImportRecordView, ImportView}
+use Rattle.pe_core.specs.Imports.{ImportRecordView, ImportView, AreLibraries, entry_size}
 use Rattle.pe_core.specs.Refusals.{Refusal, ◌>>=◌}
 use Rattle.pe_core.specs.Sections.{sections_at}
 use Rattle.pe_core.specs.declared.header.TheConstants.{IMAGE_FILE_DLL}
@@ -21,9 +21,15 @@ use Rattle.calls_headers.specs.Headers.{headers_at}
 use Rattle.pe_c.specs.HeadersRead.{header_of}
 use Rattle.pe_c.specs.ImageDebug.{AreDebugData}
 use Rattle.calls_failures.specs.ImageParts.{AreCertificates, AreExceptions, AreExports, AreImports, AreRelocations, AreResources}
-use Rattle.calls_base.specs.Images.{image_at}
+use Rattle.calls_base.specs.Images.{image_at, map_of_image}
 use Rattle.calls_headers.specs.declared.headers.Headers.{Headers}
 use Rattle.calls_base.specs.declared.image.Image.{Image}
+use Rattle.std.specs.List.{AllZip}
+use Rattle.calls_directories.specs.Imports.{StepsLibraries, libraries_at}
+use Rattle.calls_base.specs.Ranges.{IsRange}
+use Rattle.calls_base.specs.Runs.{ReturnsItems}
+use Rattle.calls_directories.specs.declared.names.imports.Libraries.{Libraries}
+use Rattle.calls_directories.specs.declared.names.imports.Library.{Library}
 
 -- the number of a way to read: bit 0 is permissive mode, bit 1 an image as loaded, whose RVAs are not mapped
 abbrev pub number_of_mode : ParseMode → Bool → ℕ
@@ -106,3 +112,27 @@ IsImageAfter b o (Ok image) r = IsImageWith b o image (sections_at b image.secti
 -- this is the image of these bytes with these options by the calls, or the first error that they return
 abbrev pub IsImageOfCalls : List ℕ → ParseOptions → Result ImageView Refusal → Type 0
 IsImageOfCalls b o r = IsImageAfter b o (image_at b (mode_of o)) r
+
+-- ---- the libraries of an image by the calls: the names of all that the walk of `pe_c_next_library` returns
+
+-- the range that is the name of a library has these bytes
+abbrev pub IsNameOf : List ℕ → Library → List ℕ → Type 0
+IsNameOf b x name = IsRange b x.name name
+
+-- the walk returns libraries to the end, and these are their names, sorted by their bytes, each once
+abbrev pub AreNamesAfter : (ℕ → Option ℕ) → ℕ → List ℕ → Libraries → List (List ℕ) → Type 0
+AreNamesAfter offset w b walk sorted =
+    (libraries : List Library) × (names : List (List ℕ))
+    × ReturnsItems (StepsLibraries offset w b) walk (map (λ x. Ok x) libraries)
+    × AllZip (IsNameOf b) libraries names
+    × AreLibraries names sorted
+
+-- by what `pe_c_import_libraries` returns: no names where that is no walk, and where the imports are left out
+abbrev pub AreNamesBy : Bool → List ℕ → Image → List SectionTable → Result (Option Libraries) Refusal → List (List ℕ) → Type 0
+AreNamesBy false b image sections start sorted = sorted ≡ []
+AreNamesBy true b image sections (Err refusal) sorted = sorted ≡ []
+AreNamesBy true b image sections (Ok None) sorted = sorted ≡ []
+AreNamesBy true b image sections (Ok (Some walk)) sorted = AreNamesAfter (map_of_image image sections) (entry_size (image.width == 64)) b walk sorted
+
+abbrev pub AreLibrariesOfCalls : List ℕ → ParseOptions → Image → List SectionTable → List (List ℕ) → Type 0
+AreLibrariesOfCalls b o image sections sorted = AreNamesBy o.parse_imports b image sections (libraries_at image (map_of_image image sections)) sorted

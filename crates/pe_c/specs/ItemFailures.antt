@@ -11,19 +11,16 @@ use Rattle.calls_directories.specs.BoundImports.{first_bound}
 use Rattle.calls_directories.specs.Certificates.{certificate_step}
 use Rattle.calls_directories.specs.DelayImports.{first_library_in, first_of_walk}
 use Rattle.calls_directories.specs.Imports.{import_step, library_step}
-use Rattle.calls_directories.specs.Relocations.{block_reported, relocation_reported}
+use Rattle.calls_directories.specs.DirectoryRuns.{block_reported, relocation_reported}
 use Rattle.calls_directories.specs.ResourceLeaves.{first_item, items_left}
 use Rattle.calls_failures.specs.Arm64Failures.{arm64_record_numbers}
-use Rattle.calls_failures.specs.BoundFailures.{bound_numbers}
+use Rattle.calls_failures.specs.StepFailures.{bound_numbers, block_numbers, certificate_numbers, import_numbers, library_numbers, relocation_numbers, symbol_name_numbers, delay_import_numbers, delayed_function_numbers}
 use Rattle.calls_failures.specs.DebugFailures.{record_numbers, record_refusal}
-use Rattle.calls_failures.specs.DelayFailures.{delay_import_numbers, delayed_function_numbers}
 use Rattle.calls_failures.specs.DirectoryFailures.{directory_numbers, directory_refusal}
 use Rattle.calls_failures.specs.Failures.{first_failure, image_failure, rows_failures, te_failures}
 use Rattle.calls_failures.specs.ResourceFailures.{leaf_numbers}
-use Rattle.calls_failures.specs.StepFailures.{block_numbers, certificate_numbers, import_numbers, library_numbers, relocation_numbers}
-use Rattle.calls_failures.specs.SymbolFailures.{symbol_name_numbers}
-use Rattle.pe_c.specs.declared.failures.steps.FailedItem.{FailedItem}
-use Rattle.pe_c.specs.declared.failures.steps.TheConstants.{FAILED_ARM64_RECORD, FAILED_BOUND_IMPORT, FAILED_CERTIFICATE, FAILED_DEBUG_RECORD, FAILED_DELAYED_FUNCTION, FAILED_DELAY_IMPORT, FAILED_DIRECTORY, FAILED_IMAGE, FAILED_IMPORT, FAILED_LIBRARY, FAILED_RELOCATION, FAILED_RELOCATION_BLOCK, FAILED_RESOURCE_LEAF, FAILED_SECTIONS, FAILED_SYMBOL_NAME, FAILED_TE}
+use Rattle.pe_c.specs.declared.failures.FailedItem.{FailedItem}
+use Rattle.pe_c.specs.declared.failures.TheConstants.{FAILED_ARM64_RECORD, FAILED_BOUND_IMPORT, FAILED_CERTIFICATE, FAILED_DEBUG_RECORD, FAILED_DELAYED_FUNCTION, FAILED_DELAY_IMPORT, FAILED_DIRECTORY, FAILED_IMAGE, FAILED_IMPORT, FAILED_LIBRARY, FAILED_RELOCATION, FAILED_RELOCATION_BLOCK, FAILED_RESOURCE_LEAF, FAILED_SECTIONS, FAILED_SYMBOL_NAME, FAILED_TE}
 use Rattle.calls_headers.specs.Coff.{symbol_name_at}
 use Rattle.calls_unwind.specs.Arm64.{arm64_record_of}
 

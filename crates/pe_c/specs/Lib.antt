@@ -3,12 +3,6 @@ pub mod DumpLaws
 pub mod WalkStarts
 pub mod ImageDebug
 pub mod ImageOfCalls
-pub mod LibrariesOfCalls
 pub mod HeadersRead
-pub mod TwoCalls
-pub mod PdbFrames
-pub mod PartLaws
 pub mod AnyParts
 pub mod ItemFailures
-pub mod ImageRanges
-pub mod Steps

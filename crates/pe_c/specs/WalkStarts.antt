@@ -20,6 +20,8 @@ use Rattle.calls_directories.specs.declared.directories.clr.Metadata.{Metadata}
 use Rattle.calls_directories.specs.declared.directories.delay_imports.DelayedFunctions.{DelayedFunctions}
 use Rattle.calls_base.specs.declared.image.Image.{Image}
 use Rattle.calls_base.specs.declared.ranges.Range.{Range}
+use Rattle.pe_core.specs.Refusals.{Refusal}
+use Rattle.calls_base.specs.HandsOut.{HandsOutIf}
 
 -- the walk over the directory with this index, and the bytes of its table
 pub record StartsTable (index : ℕ) (b : List ℕ) (image : Image) (sections : List SectionTable) (walk : Range) (table : List ℕ) : Type 0 where
@@ -50,3 +52,9 @@ ReturnsDelayLibraries offset b image walk items =
 abbrev pub ReturnsFunctions : (ℕ → Option ℕ) → List ℕ → Image → ℕ → DelayedFunctions → List (Result ℕ DirectoryRefusal) → Type 0
 ReturnsFunctions offset b image attributes walk items =
     ReturnsItems (StepsDelayedFunctions offset b image) walk (read_items (function_of offset b image attributes) items)
+
+-- ---- steps of walks that are calls of their own
+
+-- what such a call returns and writes is what a step returns, and the walk after it is that after the step
+abbrev pub HandsOutStep : {W X : Type 0} → (W → Result (Option X) Refusal → W → Type 0) → ℕ → W → W → X → X → Type 0
+HandsOutStep {W} {X} Steps number w v old new = (answer : Result (Option X) Refusal) × Steps w answer v × HandsOutIf number old new answer

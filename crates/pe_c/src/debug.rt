@@ -2,16 +2,19 @@
 
 ghost use Rattle.std.specs.Prelude.{◌≡◌};
 ghost use Rattle.pe_records.specs.declared.debug.constants.TheConstants.{IMAGE_DEBUG_TYPE_CODEVIEW, IMAGE_DEBUG_TYPE_EMBEDDEDPORTABLEPDB, IMAGE_DEBUG_TYPE_EX_DLLCHARACTERISTICS, IMAGE_DEBUG_TYPE_PDBCHECKSUM, IMAGE_DEBUG_TYPE_POGO, IMAGE_DEBUG_TYPE_REPRO, IMAGE_DEBUG_TYPE_VC_FEATURE};
-ghost use Rattle.calls_headers.specs.Debug.{characteristics_of, checksum_of, embedded_of, features_of, key_of, pdb20_of, pogo_of, read_by_type, read_first, repro_of};
-ghost use Rattle.calls_base.specs.HandsOut.{HandsOutIf};
+ghost use Rattle.calls_headers.specs.Debug.{characteristics_of, checksum_of, embedded_of, features_of, key_of, pdb20_of, pogo_of, read_by_type, read_first, repro_of, codeview_at, StepsPogoEntries};
+ghost use Rattle.calls_base.specs.HandsOut.{HandsOutIf, result_number};
 ghost use Rattle.calls_base.specs.Views.{directory_sections};
+ghost use Rattle.pe_records.specs.DebugDirectory.{debug_entry_at};
+ghost use Rattle.calls_base.specs.Walks.{next_of, walk_of};
+ghost use Rattle.calls_base.specs.Lists.{HandsOutList, Numbered};
 
-pub mod records;
-pub mod walks;
-
+use calls_base::lists::{Steps, hand_out_list};
+use calls_base::ranges::Range;
 use calls_base::results::{DONE, hand_out_some, number_of};
 use calls_base::view::View;
-use calls_headers::debug::records::SymbolKey;
+use calls_headers::debug::records::{SymbolKey, codeview};
+use calls_headers::debug::walks::{PogoEntries, PogoEntry, next_debug_entry};
 use calls_headers::debug::{
     DebugRecords, by_type, first_entries, first_key, read_records, refuse_records,
 };
@@ -104,4 +107,47 @@ pub extern "C" fn pe_c_debug_record(
 {
     read_records(bytes, mode, &by_type(entry), out);
     DONE
+}
+
+/// Reads a CodeView record alone, as a minidump has one of each module: `NOTHING` where it is not one of PDB 7.0. Other
+/// debug data, and damage there, make no difference.
+///
+/// Errors: `SHORT` where the range is not inside the bytes; `DEBUG_SIZE` where it has fewer than 24 bytes.
+#[unsafe(no_mangle)]
+pub extern "C" fn pe_c_codeview(bytes: &[u8], record: &Range, out: &mut SymbolKey) -> u32
+    ensures { HandsOutIf result out.old out.new (codeview_at bytes.now record.now) }
+{
+    hand_out_some(codeview(bytes, record), out)
+}
+
+/// Reads the next entry of the debug directory: `NOTHING` at the end of the walk.
+///
+/// Errors: `SHORT` where the walk is not inside the bytes, or an entry is truncated. After it the walk is over.
+#[unsafe(no_mangle)]
+pub extern "C" fn pe_c_next_debug_entry(
+    bytes: &[u8],
+    walk: &mut Range,
+    out: &mut ImageDebugDirectory,
+) -> u32
+    ensures entry { HandsOutIf result out.old out.new
+        (next_of (debug_entry_at 0) 28 bytes.now walk.old) }
+    ensures walk { walk.new ≡ walk_of 28 bytes.now walk.old }
+{
+    hand_out_some(next_debug_entry(bytes, walk), out)
+}
+
+/// Lists the entries of a POGO record, as `pe_c_next_pogo_entry` returns them, and moves the walk past them.
+///
+/// Errors: `ROOM` where `entries` is empty; those of `pe_c_next_pogo_entry`.
+#[unsafe(no_mangle)]
+pub extern "C" fn pe_c_list_pogo_entries(
+    bytes: &[u8],
+    walk: &mut Range,
+    entries: &mut [PogoEntry],
+    written: &mut u64,
+) -> u32
+    ensures { HandsOutList (Numbered result_number (StepsPogoEntries bytes.now))
+        result walk.old walk.new entries.old entries.new written.old written.new }
+{
+    hand_out_list(&PogoEntries { bytes }, walk, entries, written)
 }

@@ -1,7 +1,8 @@
 //! Calls on the other directories of an image: relocations, TLS, the load configuration and others, over calls_directories.
 
+ghost use Rattle.std.specs.Prelude.{◌≡◌};
 ghost use Rattle.calls_base.specs.Directories.{callbacks_at, first_va_in, left_after, step_of, table_at, tls_at};
-ghost use Rattle.calls_base.specs.DirectoryResults.{DirectoryHandsOut};
+ghost use Rattle.calls_base.specs.DirectoryResults.{DirectoryHandsOut, directory_number};
 ghost use Rattle.calls_base.specs.HandsOut.{HandsOut, HandsOutIf};
 ghost use Rattle.calls_base.specs.Views.{directory_sections, map_of, may_map};
 ghost use Rattle.calls_base.specs.Walks.{walk_of};
@@ -9,22 +10,44 @@ ghost use Rattle.calls_directories.specs.BoundImports.{bound_imports_at};
 ghost use Rattle.calls_directories.specs.Certificates.{certificate_step};
 ghost use Rattle.calls_directories.specs.Clr.{clr_header_at, clr_metadata_at, first_stream_in, stream_reported, streams_after};
 ghost use Rattle.calls_directories.specs.DirectoryTables.{export_directory_at, next_item_of, resource_directory_at, root_at};
-ghost use Rattle.calls_directories.specs.GuardTables.{guard_table_at};
+ghost use Rattle.calls_directories.specs.GuardTables.{guard_table_at, StepsGuardEntries};
 ghost use Rattle.calls_directories.specs.LoadConfigs.{load_config_at, numbered_field_at};
-ghost use Rattle.std.specs.Prelude.{◌≡◌};
+ghost use Rattle.calls_directories.specs.DirectoryRuns.{StepsBoundImports, StepsForwarders, StepsBlocks, StepsRelocations};
+ghost use Rattle.calls_base.specs.Lists.{HandsOutList, Numbered};
+ghost use Rattle.calls_directories.specs.KeptWalks.{StepsKeptDelayLibraries, StepsKeptFunctions};
+ghost use Rattle.calls_directories.specs.LibraryFunctions.{StepsLibraryFunctions};
 
 use calls_base::directories::table_at;
 use calls_base::image::directory;
+use calls_base::lists::{Steps, hand_out_list};
+use calls_base::named_view::NamedView;
+use calls_base::near_map::NO_WINDOW;
 use calls_base::ranges::Range;
 use calls_base::results::{hand_out, hand_out_found, hand_out_some};
+use calls_base::text_runs::{Run, first_runs};
 use calls_base::view::View;
-use calls_directories::directories::bound_imports::bound_imports_at;
+use calls_directories::directories::all_delay_imports::{
+    LibraryFunction, LibraryFunctions, list_library_functions, put_names,
+};
+use calls_directories::directories::base_relocations::{
+    Blocks, Relocation, RelocationBlock, Relocations,
+};
+use calls_directories::directories::bound_imports::{
+    BoundForwarder, BoundImport, BoundNames, bound_imports_at, put_bound_forwarders,
+    put_bound_names,
+};
 use calls_directories::directories::certificates::{Certificate, step};
 use calls_directories::directories::clr::{
     Metadata, MetadataStream, MetadataStreams, clr_header_at, clr_metadata_at, next_stream,
     stream_reported,
 };
-use calls_directories::directories::guard_tables::{GuardEntries, guard_table_at};
+use calls_directories::directories::delay_imports::{
+    DelayLibrary, DelayWalk, DelayedFunction, DelayedFunctionWalk, list_functions, list_libraries,
+    put_dll_names, put_function_names,
+};
+use calls_directories::directories::guard_tables::{
+    Entries, GuardEntries, GuardEntry, guard_table_at,
+};
 use calls_directories::directories::load_config::{LoadConfig, load_config_at, numbered_field_at};
 use calls_directories::directories::tables::{
     ExportFields, ResourceDirectory, ResourceItem, export_directory_at, next_resource_item,
@@ -273,4 +296,185 @@ pub extern "C" fn pe_c_next_tls_callback(view: &View, walk: &mut Range, out: &mu
         walk.old) }
 {
     hand_out_found(next_callback(view, walk), out)
+}
+
+/// Lists bound imports, as `pe_c_next_bound_import` returns them, and moves the walk past them and their forwarders. Names are read
+/// together: with one of `runs` for each of `entries`, or more, a call takes about as long as to sort these and to read each byte of
+/// the directory a few times, however many of the names share a text. With less room further names are read to their end each. What
+/// is in `runs` after the call is left open.
+///
+/// Errors: `ROOM` where `entries` is empty; those of `pe_c_next_bound_import`.
+#[unsafe(no_mangle)]
+pub extern "C" fn pe_c_list_bound_imports(
+    bytes: &[u8],
+    table: &Range,
+    walk: &mut Range,
+    runs: &mut [Run],
+    entries: &mut [BoundImport],
+    written: &mut u64,
+) -> u32
+    ensures { HandsOutList (Numbered directory_number (StepsBoundImports bytes.now table.now))
+        result walk.old walk.new entries.old entries.new written.old written.new }
+{
+    let room = first_runs(runs, entries.len());
+    let count = put_bound_names(bytes, walk, room);
+    let imports = BoundNames::together(bytes, *table, &mut room[..count]);
+    hand_out_list(&imports, walk, entries, written)
+}
+
+/// Lists what `pe_c_next_bound_forwarder` returns, and moves the walk past it. Names are read together, as by
+/// `pe_c_list_bound_imports`.
+///
+/// A DLL has its time stamp and its name where a forwarder has them: a walk through all of the directory lists both, in their order,
+/// which forwarders of many DLLs, a call each, would not in the time of one.
+///
+/// Errors: `ROOM` where `entries` is empty; those of `pe_c_next_bound_forwarder`.
+#[unsafe(no_mangle)]
+pub extern "C" fn pe_c_list_bound_forwarders(
+    bytes: &[u8],
+    table: &Range,
+    walk: &mut Range,
+    runs: &mut [Run],
+    entries: &mut [BoundForwarder],
+    written: &mut u64,
+) -> u32
+    ensures { HandsOutList (Numbered directory_number (StepsForwarders bytes.now table.now))
+        result walk.old walk.new entries.old entries.new written.old written.new }
+{
+    let room = first_runs(runs, entries.len());
+    let count = put_bound_forwarders(bytes, walk, room);
+    let forwarders = BoundNames::together(bytes, *table, &mut room[..count]);
+    hand_out_list(&forwarders, walk, entries, written)
+}
+
+/// Lists the DLLs of a walk, as `pe_c_next_delay_import` returns them, and moves the walk past them. The names are read together: with
+/// one of `runs` for each of `entries`, or more, a call takes about as long as to sort these and to read each byte a few times,
+/// however many of the names share a text. With less room further names are read to their end each. What is in `runs` after the call
+/// is left open.
+///
+/// Errors: `ROOM` where `entries` is empty; those of `pe_c_next_delay_import`.
+#[unsafe(no_mangle)]
+pub extern "C" fn pe_c_list_delay_imports(
+    view: &View,
+    walk: &mut DelayWalk,
+    runs: &mut [Run],
+    entries: &mut [DelayLibrary],
+    written: &mut u64,
+) -> u32
+    ensures { HandsOutList (Numbered directory_number (StepsKeptDelayLibraries view.now))
+        result walk.old walk.new entries.old entries.new written.old written.new }
+{
+    if runs.is_empty() {
+        return list_libraries(&NamedView::alone(view), walk, entries, written);
+    }
+    let room = first_runs(runs, entries.len());
+    let count = put_dll_names(view, &walk.entries, room);
+    let names = NamedView::together(view, &mut room[..count]);
+    list_libraries(&names, walk, entries, written)
+}
+
+/// Lists what is imported of a DLL, as `pe_c_next_delayed_function` returns it, and moves the walk past it. The names are read together:
+/// with one of `runs` for each of `entries`, or more, a call takes about as long as to sort these and to read each byte a few times,
+/// however many of the names share a text. With less room further names are read to their end each. What is in `runs` after the call
+/// is left open.
+///
+/// Errors: `ROOM` where `entries` is empty; those of `pe_c_next_delayed_function`.
+#[tactic(auto, using(calls_base::proofs::NearMaps::no_window))]
+#[unsafe(no_mangle)]
+pub extern "C" fn pe_c_list_delayed_functions(
+    view: &View,
+    walk: &mut DelayedFunctionWalk,
+    runs: &mut [Run],
+    entries: &mut [DelayedFunction],
+    written: &mut u64,
+) -> u32
+    ensures { HandsOutList (Numbered directory_number (StepsKeptFunctions view.now))
+        result walk.old walk.new entries.old entries.new written.old written.new }
+{
+    if runs.is_empty() {
+        return list_functions(&NamedView::alone(view), walk, entries, written);
+    }
+    let room = first_runs(runs, entries.len());
+    let mut near = NO_WINDOW;
+    let count = put_function_names(view, &walk.functions, &mut near, room);
+    let names = NamedView::together(view, &mut room[..count]);
+    list_functions(&names, walk, entries, written)
+}
+
+/// Lists the functions of all delay-loaded DLLs, as `pe_c_next_delay_import` returns these and `pe_c_next_delayed_function` the
+/// functions of each, one DLL after the other, and moves the walk past them. DLLs without a function are read too. Names are read
+/// together, those of the DLLs and those of their functions: with one of `runs` for each of `entries` and one for each DLL that
+/// is left, or more, a call takes about as long as to sort these and to read each byte a few times, however many of the names
+/// share a text. With less room further names are read to their end each. What is in `runs` after the call is left open.
+///
+/// DLLs may share a table, whose functions are listed for each of them: the room in `entries` bounds what a call takes.
+///
+/// Errors: `ROOM` where `entries` is empty; those of `pe_c_next_delayed_function`, and of `pe_c_next_delay_import`, in the order
+/// of the walk. After an error the walk is over.
+#[unsafe(no_mangle)]
+pub extern "C" fn pe_c_list_all_delayed_functions(
+    view: &View,
+    walk: &mut LibraryFunctions,
+    runs: &mut [Run],
+    entries: &mut [LibraryFunction],
+    written: &mut u64,
+) -> u32
+    ensures { HandsOutList (Numbered directory_number (StepsLibraryFunctions
+        (map_of view.now) view.now.bytes.now view.now.image.now))
+        result walk.old walk.new entries.old entries.new written.old written.new }
+{
+    let count = put_names(view, walk, entries.len(), runs);
+    let names = NamedView::together(view, &mut runs[..count]);
+    list_library_functions(&names, walk, entries, written)
+}
+
+/// Lists the blocks of a walk, as `pe_c_next_relocation_block` returns them, and moves the walk past them.
+///
+/// Errors: `ROOM` where `entries` is empty; those of `pe_c_next_relocation_block`.
+#[unsafe(no_mangle)]
+pub extern "C" fn pe_c_list_relocation_blocks(
+    bytes: &[u8],
+    walk: &mut Range,
+    entries: &mut [RelocationBlock],
+    written: &mut u64,
+) -> u32
+    ensures { HandsOutList (Numbered directory_number (StepsBlocks bytes.now))
+        result walk.old walk.new entries.old entries.new written.old written.new }
+{
+    hand_out_list(&Blocks { bytes }, walk, entries, written)
+}
+
+/// Lists the relocations of a block, as `pe_c_next_relocation` returns them, and moves the walk past them. `page_rva` is that
+/// of the block.
+///
+/// Errors: `ROOM` where `entries` is empty; those of `pe_c_next_relocation`.
+#[unsafe(no_mangle)]
+pub extern "C" fn pe_c_list_relocations(
+    bytes: &[u8],
+    page_rva: u32,
+    walk: &mut Range,
+    entries: &mut [Relocation],
+    written: &mut u64,
+) -> u32
+    ensures { HandsOutList (Numbered directory_number (StepsRelocations page_rva bytes.now))
+        result walk.old walk.new entries.old entries.new written.old written.new }
+{
+    let relocations = Relocations { bytes, page_rva };
+    hand_out_list(&relocations, walk, entries, written)
+}
+
+/// Lists the entries of a table, as `pe_c_next_guard_entry` returns them, and moves the walk past them.
+///
+/// Errors: `ROOM` where `entries` is empty; those of `pe_c_next_guard_entry`.
+#[unsafe(no_mangle)]
+pub extern "C" fn pe_c_list_guard_entries(
+    bytes: &[u8],
+    walk: &mut GuardEntries,
+    entries: &mut [GuardEntry],
+    written: &mut u64,
+) -> u32
+    ensures { HandsOutList (Numbered directory_number (StepsGuardEntries bytes.now))
+        result walk.old walk.new entries.old entries.new written.old written.new }
+{
+    hand_out_list(&Entries { bytes }, walk, entries, written)
 }

@@ -1,42 +1,22 @@
 //! Laws over the definitions of `specs/`. Each is the contract of a function that does nothing, so that a caller's
 //! proof can cite it by calling the function.
 
-pub mod arm64;
-pub mod coff;
-pub mod debug;
-pub mod directories;
-pub mod dumps;
-pub mod failures;
-pub mod frames;
-pub mod guard_tables;
-pub mod image_writes;
-pub mod indexes;
-pub mod kept_sections;
-pub mod lists;
-pub mod loaded;
-pub mod pdbs;
-pub mod results;
-pub mod signatures;
-pub mod te;
-pub mod two_calls;
-pub mod version_blocks;
-pub mod walks;
-
+ghost use Rattle.std.specs.List.{AllZip};
+ghost use Rattle.std.specs.Prelude.{◌≡◌, ℕ, ◌+◌, List, Option, Ok, Err, IfSome, ◌⊎◌, ◌*◌, ◌%◌, ◌^◌, ◌<◌, ◌≤◌, length, Some, Result, true, false, [], ◌∷◌, ◌++◌, ◌≢◌, ◌↔◌, map};
 ghost use Rattle.calls_unwind.specs.Arm64.{StepsArm64Codes, arm64_function_in, arm64_walk_at, flat_arm64_item, flat_info, flat_scope_at, left_of_stream};
 ghost use Rattle.calls_directories.specs.Certificates.{StepsCertificates, ReportsCertificate, listed};
-ghost use Rattle.calls_headers.specs.DebugWalks.{StepsPogoEntries, entries_reported};
+ghost use Rattle.calls_headers.specs.Debug.{StepsPogoEntries, entries_reported};
 ghost use Rattle.calls_directories.specs.ExportAddresses.{address_table, addresses_in, exported_with, exported_at};
 ghost use Rattle.calls_directories.specs.Exports.{StepsExports, count_of, tables_or_short, reported_entry, reported_from, walk_over, with_tables};
-ghost use Rattle.pe_c.specs.ImageOfCalls.{IsImageOfCalls, mode_of};
+ghost use Rattle.pe_c.specs.ImageOfCalls.{IsImageOfCalls, mode_of, AreLibrariesOfCalls};
 ghost use Rattle.calls_base.specs.Images.{image_at, map_of_image};
-ghost use Rattle.calls_directories.specs.Imports.{libraries_at};
-ghost use Rattle.pe_c.specs.LibrariesOfCalls.{AreLibrariesOfCalls};
-ghost use Rattle.calls_directories.specs.Parts.{HasTables, ImportsInTurn, ReportsExport, ReportsLibraries, ReportsLibrariesUntil, import_records_at};
 ghost use Rattle.calls_base.specs.Modes.{options_of};
+ghost use Rattle.calls_directories.specs.Imports.{libraries_at};
+ghost use Rattle.calls_directories.specs.Parts.{HasTables, ImportsInTurn, ReportsExport, ReportsLibraries, ReportsLibrariesUntil, import_records_at};
 ghost use Rattle.calls_unwind.specs.Plans.{HandsOutAfter, ReturnsInTurn, ReportsUnwindRecord, ending_of, plan_from};
 ghost use Rattle.calls_base.specs.Ranges.{IsPart, IsRange, bytes_at};
 ghost use Rattle.calls_directories.specs.ResourceLeaves.{IsNameOf, name_reported};
-ghost use Rattle.calls_headers.specs.RichHeaders.{rich_entry_at};
+ghost use Rattle.calls_headers.specs.Headers.{rich_entry_at};
 ghost use Rattle.calls_base.specs.Runs.{ReturnsItems};
 ghost use Rattle.calls_write.specs.Signing.{CoversDigest, digest_at, headers_of};
 ghost use Rattle.calls_unwind.specs.Unwinding.{StepsCodes, exception_table_at, image_exceptions, links_at, flat_item, flat_record, function_in, code_stream_at};
@@ -87,9 +67,20 @@ ghost use Rattle.pe_unwind.specs.UnwindRecord.{UnwindInfoView, unwind_record, un
 ghost use Rattle.pe_unwind.specs.declared.arm64.codes.Arm64UnwindCodeData.{Arm64UnwindCodeData};
 ghost use Rattle.pe_unwind.specs.declared.function_table.RuntimeFunction.{RuntimeFunction};
 ghost use Rattle.pe_unwind.specs.declared.unwind_code.UnwindCode.{UnwindCode};
-ghost use Rattle.std.specs.List.{AllZip};
-ghost use Rattle.std.specs.Prelude.{◌≡◌, ℕ, ◌+◌, List, Option, Ok, Err, IfSome, ◌⊎◌, ◌*◌, ◌%◌, ◌^◌, ◌<◌, ◌≤◌, length, Some, Result, true, false, [], ◌∷◌, ◌++◌, ◌≢◌, ◌↔◌, map};
 ghost use Rattle.pe_core.specs.declared.header.TheConstants.{COFF_MACHINE_X86_64};
+ghost use Rattle.pe_c.specs.DebugLaws.{ReadsFixed, ReadsText};
+
+pub mod coff;
+pub mod debug;
+pub mod directories;
+pub mod dumps;
+pub mod failures;
+pub mod frames;
+pub mod image_writes;
+pub mod indexes;
+pub mod lists;
+pub mod signatures;
+pub mod walks;
 
 /// For all bytes and options the results of the calls on an image, in the order and by the modes of `PE`, are exactly the
 /// fields of `PE::parse_with_opts` of pe_image, or its first error: what the calls return decides the image, and it is that.
@@ -374,4 +365,11 @@ pub fn names_of_leaves_are_their_units()
     ensures { (b : List ℕ) (tree : Range) (d : List ℕ)
         (e : ResourceEntry) (units : Option (List ℕ)) → bytes_at b tree ≡ Ok d →
         name_units d e ≡ Ok units → IsNameOf b (name_reported tree.offset e units) units }
+{}
+
+/// `pe_c_version_blocks`, and where it is done the call that reads the fixed file information or the value of a name, return those of
+/// the first version information: so do `pe_c_fixed_version` (`fixed`) and `pe_c_version_text` (`text`).
+pub fn two_calls_read_the_first()
+    ensures fixed { ReadsFixed }
+    ensures text { ReadsText }
 {}

@@ -29,9 +29,8 @@ mod pdb;
 mod stack;
 mod unwinding;
 
-// Lists in one call, and why a call refuses.
+// Why a call refuses.
 mod failures;
-mod lists;
 
 // What is written.
 mod write;

@@ -1,19 +1,26 @@
 //! Calls on resources: the tree, its leaves, version information, over calls_directories.
 
-ghost use Rattle.calls_base.specs.HandsOut.{HandsOutIf};
+ghost use Rattle.std.specs.Prelude.{Ok};
+ghost use Rattle.calls_base.specs.HandsOut.{HandsOutIf, result_number};
 ghost use Rattle.calls_base.specs.Views.{directory_sections, may_map};
 ghost use Rattle.calls_directories.specs.ResourceLeaves.{StartsLeaves, image_tree, leaves_start, walk_at};
-ghost use Rattle.calls_directories.specs.VersionBlocks.{HandsOutBlocks};
+ghost use Rattle.calls_directories.specs.VersionBlocks.{HandsOutBlocks, StepsVersionBlocks};
 ghost use Rattle.calls_directories.specs.Versions.{HandsOutManifest, fixed_in, name_at, text_in};
 ghost use Rattle.pe_core.specs.Refusals.{Returns};
-ghost use Rattle.std.specs.Prelude.{Ok};
+ghost use Rattle.calls_directories.specs.KeptWalks.{StepsKeptLeaves};
+ghost use Rattle.calls_base.specs.Lists.{HandsOutList, Numbered};
+ghost use Rattle.calls_base.specs.TreeResults.{tree_number};
 
 use calls_base::image::{RESOURCE_TABLE, directory, is_absent};
+use calls_base::lists::{Steps, hand_out_list};
 use calls_base::ranges::{Range, range_of, some_range};
 use calls_base::results::{DONE, NOTHING, hand_out_some, number_of};
 use calls_base::view::View;
-use calls_directories::resources::leaves::{ResourceLeaves, leaf_position, walk_at};
+use calls_directories::resources::leaves::{
+    Blocks, LeafWalk, Leaves, ResourceLeaf, ResourceLeaves, leaf_position, walk_at,
+};
 use calls_directories::resources::version::{content_of, fixed_in, name_at, text_in};
+use calls_directories::resources::version_blocks::VersionBlock;
 use pe_resource::{RT_MANIFEST, RT_VERSION, ResourceData, VersionName, VsFixedFileInfo};
 
 // ---- leaves
@@ -106,4 +113,36 @@ pub extern "C" fn pe_c_version_blocks(view: &View, out: &mut Range) -> u32
         Ok(content) => hand_out_some(Ok(some_range(content)), out),
         Err(error) => number_of(&error),
     }
+}
+
+/// Lists the leaves of a resource tree, as `pe_c_next_resource_leaf` returns them, and moves the walk past them.
+///
+/// Errors: `ROOM` where `entries` is empty; those of `pe_c_next_resource_leaf`.
+#[unsafe(no_mangle)]
+pub extern "C" fn pe_c_list_resource_leaves(
+    view: &View,
+    walk: &mut LeafWalk,
+    entries: &mut [ResourceLeaf],
+    written: &mut u64,
+) -> u32
+    ensures { HandsOutList (Numbered tree_number (StepsKeptLeaves view.now))
+        result walk.old walk.new entries.old entries.new written.old written.new }
+{
+    hand_out_list(&Leaves { view }, walk, entries, written)
+}
+
+/// Lists the blocks of a walk, as `pe_c_next_version_block` returns them, and moves the walk past them.
+///
+/// Errors: `ROOM` where `entries` is empty; those of `pe_c_next_version_block`, after which the walk goes on as after that call.
+#[unsafe(no_mangle)]
+pub extern "C" fn pe_c_list_version_blocks(
+    bytes: &[u8],
+    walk: &mut Range,
+    entries: &mut [VersionBlock],
+    written: &mut u64,
+) -> u32
+    ensures { HandsOutList (Numbered result_number (StepsVersionBlocks bytes.now))
+        result walk.old walk.new entries.old entries.new written.old written.new }
+{
+    hand_out_list(&Blocks { bytes }, walk, entries, written)
 }

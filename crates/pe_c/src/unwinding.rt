@@ -2,19 +2,26 @@
 
 ghost use Rattle.std.specs.Prelude.{◌≡◌, Some, Ok};
 ghost use Rattle.pe_unwind.specs.ScopeTable.{scope_at};
-ghost use Rattle.calls_base.specs.HandsOut.{HandsOut, HandsOutIf};
-ghost use Rattle.calls_unwind.specs.Unwinding.{function_in, machine_table_at, HandsOutFound, HandsOutRecord, links_at, scopes_at};
+ghost use Rattle.calls_base.specs.HandsOut.{HandsOut, HandsOutIf, result_number};
+ghost use Rattle.calls_unwind.specs.Unwinding.{function_in, machine_table_at, HandsOutFound, HandsOutRecord, links_at, scopes_at, StepsCodes, HandsOutAll, code_stream};
 ghost use Rattle.calls_base.specs.Views.{directory_sections, map_of};
 ghost use Rattle.calls_base.specs.Walks.{next_of, walk_of};
+ghost use Rattle.calls_unwind.specs.Plans.{HandsOutPlan};
+ghost use Rattle.calls_base.specs.KeptSections.{KeepsOn, map_kept};
+ghost use Rattle.calls_base.specs.Lists.{HandsOutList, Numbered, StepsByIndex, if_there};
 
-pub mod plan;
-
+use calls_base::kept_sections::{KeptView, kept_after};
+use calls_base::lists::{Steps, hand_out_list, if_there};
 use calls_base::ranges::{Range, slice_of};
-use calls_base::results::{DONE, NOTHING, hand_out, hand_out_some, number_of};
+use calls_base::results::{DONE, NOTHING, ROOM, hand_out, hand_out_some, number_of};
 use calls_base::view::View;
+use calls_unwind::lists::x64::{
+    CodeBytes, CodeForm, Entries, Functions, finish_codes, list_codes, put_frequent,
+};
+use calls_unwind::unwinding::plan::{PlanWalk, next_record};
 use calls_unwind::unwinding::{
-    UnwindRecord, find, function_in, hand_out_far, hand_out_handled, machine_table, near_offset,
-    next_scope, put_plain, scopes_in,
+    Code, CodeWalk, UnwindRecord, find, function_in, hand_out_far, hand_out_handled, machine_table,
+    near_offset, next_scope, put_plain, scopes_in,
 };
 use pe_core::{RvaMap, TableEntry};
 use pe_unwind::{RuntimeFunction, ScopeTableEntry, search};
@@ -116,4 +123,101 @@ pub extern "C" fn pe_c_next_scope(bytes: &[u8], walk: &mut Range, out: &mut Scop
     ensures walk { walk.new ≡ walk_of 16 bytes.now walk.old }
 {
     hand_out_some(next_scope(bytes, walk), out)
+}
+
+/// Reads the next record of a plan, by the function table at this range: `NOTHING` after the root.
+///
+/// Errors: those of `pe_c_unwind_record` for the next record; `FUNCTION_CYCLE` where it continues at the saved RVA.
+/// After an error the plan is over.
+#[unsafe(no_mangle)]
+pub extern "C" fn pe_c_next_record(
+    view: &View,
+    table: &Range,
+    walk: &mut PlanWalk,
+    out: &mut UnwindRecord,
+) -> u32
+    ensures plan { HandsOutPlan view.now.bytes.now
+        (links_at (map_kept view.now walk.old.kept) view.now.bytes.now table.now)
+        walk.old.plan walk.new.plan result out.old out.new }
+    ensures kept { KeepsOn view.now result walk.old.kept walk.new.kept }
+{
+    let (unwind, kept) = (walk.plan.unwind, walk.kept);
+    let map = KeptView { view, kept };
+    let given = next_record(view.bytes, table, &map, &mut walk.plan);
+    if let Ok(Some(_)) = &given {
+        walk.kept = kept_after(view, kept, unwind);
+    }
+    hand_out_some(given, out)
+}
+
+/// Lists the entries of a function table from an index on, as `pe_c_function_at` reads them, and moves `next` past them.
+///
+/// Errors: `ROOM` where `entries` is empty; `SHORT` where the range is not inside the bytes.
+#[unsafe(no_mangle)]
+pub extern "C" fn pe_c_list_functions(
+    bytes: &[u8],
+    table: &Range,
+    next: &mut u64,
+    entries: &mut [RuntimeFunction],
+    written: &mut u64,
+) -> u32
+    ensures { HandsOutList (Numbered result_number
+        (StepsByIndex (λ i. if_there (function_in bytes.now table.now i))))
+        result next.old next.new entries.old entries.new written.old written.new }
+{
+    match slice_of(bytes, table) {
+        Ok(table) => hand_out_list(&Entries { table }, next, entries, written),
+        // The first step is refused.
+        Err(_) => hand_out_list(&Functions { bytes, table }, next, entries, written),
+    }
+}
+
+/// Lists the codes of a walk, as `pe_c_next_code` returns them, and moves the walk past them.
+///
+/// Errors: `ROOM` where `entries` is empty; those of `pe_c_next_code`.
+#[unsafe(no_mangle)]
+pub extern "C" fn pe_c_list_codes(
+    bytes: &[u8],
+    walk: &mut CodeWalk,
+    entries: &mut [Code],
+    written: &mut u64,
+) -> u32
+    ensures { HandsOutList (Numbered result_number (StepsCodes bytes.now))
+        result walk.old walk.new entries.old entries.new written.old written.new }
+{
+    list_codes(bytes, walk, entries, written)
+}
+
+/// Lists all codes of a record in one call. `bytes` are those of its codes alone. A record has at most 255 codes.
+///
+/// `written` is how many are written, after an error too: then those before the code that is refused. The rest of `entries` is
+/// unchanged.
+///
+/// Errors: `ROOM` where bytes are left after as many codes as `entries`, whatever they start with; those of `pe_c_next_code`.
+#[unsafe(no_mangle)]
+pub extern "C" fn pe_c_all_codes(
+    bytes: &[u8],
+    form: &CodeForm,
+    entries: &mut [Code],
+    written: &mut u64,
+) -> u32
+    ensures { HandsOutAll (code_stream bytes.now form.now.version form.now.frame_register)
+        result entries.old entries.new written.new }
+{
+    let mut codes = CodeBytes {
+        left: bytes,
+        version: form.version,
+        frame_register: form.frame_register,
+    };
+    *written = put_frequent(&mut codes, entries) as u64;
+    if codes.left.is_empty() {
+        return DONE;
+    }
+    finish_codes(
+        codes.left,
+        codes.version,
+        codes.frame_register,
+        entries,
+        written,
+    )
 }

@@ -2,20 +2,17 @@
 
 ghost use Rattle.calls_base.specs.HandsOut.{HandsOut, HandsOutWritten};
 ghost use Rattle.calls_base.specs.WrittenFiles.{HandsOutFile, HandsOutImage};
-ghost use Rattle.calls_write.specs.ImageWrites.{certificates_written_at, image_length_at, image_written_at, whole_length_at, whole_written_at};
-ghost use Rattle.calls_write.specs.ResourceEdits.{edited_at};
-ghost use Rattle.calls_write.specs.SectionWrites.{sections_written_at};
+ghost use Rattle.calls_write.specs.ImageWrites.{certificates_written_at, image_length_at, image_written_at, whole_length_at, whole_written_at, sections_written_at};
+ghost use Rattle.calls_write.specs.ResourceEdits.{edited_at, block_at, block_with, version_numbered};
 ghost use Rattle.calls_write.specs.Signing.{attached_at, checksum_at, detached_at, digest_at};
-ghost use Rattle.calls_write.specs.VersionWrites.{block_at, block_with, version_numbered};
 ghost use Rattle.pe_version.specs.VersionRecords.{version_at};
 
 use calls_base::results::{DONE, ROOM, WRITE_FIT, hand_out, hand_out_length, number_of};
 use calls_base::view::View;
 use calls_write::image::{
-    image_length, whole_length, write_certificates, write_image, write_whole,
+    image_length, whole_length, write_certificates, write_image, write_sections, write_whole,
 };
 use calls_write::resources::{edit_to, edited_length};
-use calls_write::sections::write_sections;
 use calls_write::signing::{
     ChecksumField, Digest, attach_to, attached_length, checksum_at, detach_to, detached_length,
     digest_at,

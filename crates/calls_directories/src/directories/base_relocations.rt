@@ -5,10 +5,14 @@ ghost use Rattle.std.specs.Prelude.{◌≡◌};
 ghost use Rattle.pe_directories.specs.BaseRelocations.{first_block, first_relocation};
 ghost use Rattle.pe_directories.specs.DirectoryRefusals.{directory_answer};
 ghost use Rattle.calls_base.specs.Directories.{first_in, left_after, step_of};
-ghost use Rattle.calls_directories.specs.Relocations.{block_reported, relocation_reported};
+ghost use Rattle.calls_directories.specs.DirectoryRuns.{block_reported, relocation_reported, StepsBlocks, StepsRelocations};
+ghost use Rattle.calls_base.specs.DirectoryResults.{directory_number};
+ghost use Rattle.calls_base.specs.Lists.{Numbered};
 
 use calls_base::directories::{Result, range_left};
+use calls_base::lists::Steps;
 use calls_base::ranges::{NO_BYTES, Range, slice_of};
+use calls_base::results::number_of_directory;
 use pe_directories::{RelocationBlock as Block, RelocationBlocks};
 
 /// A block of base relocations.
@@ -82,4 +86,39 @@ pub fn next_relocation(bytes: &[u8], page_rva: u32, walk: &mut Range) -> Result<
         kind: u32::from(relocation.kind),
         argument: u32::from(relocation.argument.unwrap_or(0)),
     }))
+}
+
+/// Steps over the blocks of base relocations.
+#[derive(Clone, Copy)]
+pub struct Blocks<'a> {
+    pub bytes: &'a [u8],
+}
+
+impl<'a> Steps<Range, RelocationBlock> for Blocks<'a> {
+    ghost steps = { λ s. Numbered directory_number (StepsBlocks s.bytes.now) };
+
+    fn step(&self, walk: &mut Range) -> std::result::Result<Option<RelocationBlock>, u32> {
+        match next_block(self.bytes, walk) {
+            Ok(block) => Ok(block),
+            Err(error) => Err(number_of_directory(&error)),
+        }
+    }
+}
+
+/// Steps over the relocations of a block.
+#[derive(Clone, Copy)]
+pub struct Relocations<'a> {
+    pub bytes: &'a [u8],
+    pub page_rva: u32,
+}
+
+impl<'a> Steps<Range, Relocation> for Relocations<'a> {
+    ghost steps = { λ s. Numbered directory_number (StepsRelocations s.page_rva s.bytes.now) };
+
+    fn step(&self, walk: &mut Range) -> std::result::Result<Option<Relocation>, u32> {
+        match next_relocation(self.bytes, self.page_rva, walk) {
+            Ok(relocation) => Ok(relocation),
+            Err(error) => Err(number_of_directory(&error)),
+        }
+    }
 }

@@ -8,10 +8,15 @@ ghost use Rattle.pe_directories.specs.DirectoryRefusals.{directory_answer};
 ghost use Rattle.calls_directories.specs.BoundImports.{after_forwarder, bound_imports_at, bound_name_at, first_bound, next_forwarder};
 ghost use Rattle.calls_base.specs.Directories.{left_after, step_of};
 ghost use Rattle.calls_base.specs.Ranges.{bytes_at};
+ghost use Rattle.calls_base.specs.DirectoryResults.{directory_number};
+ghost use Rattle.calls_directories.specs.DirectoryRuns.{StepsBoundImports, StepsForwarders};
+ghost use Rattle.calls_base.specs.Lists.{Numbered};
 
 use calls_base::directories::{Result, range_left};
 use calls_base::image::{BOUND_IMPORT_TABLE, directory, is_absent};
+use calls_base::lists::Steps;
 use calls_base::ranges::{NO_BYTES, Range, slice_of};
+use calls_base::results::number_of_directory;
 use calls_base::text_runs::{Run, Texts};
 use calls_base::view::View;
 use calls_base::walks::next_entry;
@@ -213,4 +218,26 @@ pub fn put_bound_forwarders(bytes: &[u8], walk: &Range, room: &mut [Run]) -> usi
         room[i] = Run::at(usize::from(read_u16(left, SIZE_OF_ENTRY * i + 4)));
     }
     count
+}
+
+impl<'a, 'b> Steps<Range, BoundImport> for BoundNames<'a, 'b> {
+    ghost steps = { λ s. Numbered directory_number (StepsBoundImports s.bytes.now s.table) };
+
+    fn step(&self, walk: &mut Range) -> std::result::Result<Option<BoundImport>, u32> {
+        match next_bound_import(self, walk) {
+            Ok(import) => Ok(import),
+            Err(error) => Err(number_of_directory(&error)),
+        }
+    }
+}
+
+impl<'a, 'b> Steps<Range, BoundForwarder> for BoundNames<'a, 'b> {
+    ghost steps = { λ s. Numbered directory_number (StepsForwarders s.bytes.now s.table) };
+
+    fn step(&self, walk: &mut Range) -> std::result::Result<Option<BoundForwarder>, u32> {
+        match next_forwarder(self, walk) {
+            Ok(forwarder) => Ok(forwarder),
+            Err(error) => Err(number_of_directory(&error)),
+        }
+    }
 }

@@ -9,18 +9,22 @@ ghost use Rattle.pe_directories.specs.DirectoryRefusals.{directory_answer};
 ghost use Rattle.calls_directories.specs.DelayImports.{address_in, address_offset, library_of, dll_range, first_library_in, first_function_in, function_of, functions_of, name_range, named_at, ordinal_in, rva_of};
 ghost use Rattle.pe_directories.specs.ImageParts.{size_of_va};
 ghost use Rattle.calls_base.specs.FailureNumbers.{number_there};
+ghost use Rattle.calls_base.specs.DirectoryResults.{directory_number};
 ghost use Rattle.calls_base.specs.Directories.{left_after, step_of};
 ghost use Rattle.calls_base.specs.NearMaps.{IsWindow};
 ghost use Rattle.calls_base.specs.KeptSections.{ChangeNothing, map_kept};
 ghost use Rattle.calls_directories.specs.KeptWalks.{StepsKeptDelayLibraries, StepsKeptFunctions};
 ghost use Rattle.calls_base.specs.Views.{map_of};
+ghost use Rattle.calls_base.specs.Lists.{HandsOutList, Numbered};
 
 use calls_base::directories::{Result, range_left};
 use calls_base::image::Image;
 use calls_base::kept_sections::{KeptSections, keeps_sections, kept_after, map_kept};
+use calls_base::lists::{Steps, hand_out_list};
 use calls_base::named_view::NamedView;
 use calls_base::near_map::{NO_WINDOW, Window, map_near};
 use calls_base::ranges::{NO_BYTES, Range, bytes_there, slice_of};
+use calls_base::results::number_of_directory;
 use calls_base::text_runs::Run;
 use calls_base::view::View;
 use pe_core::{Error, Reason, lookup_number, lookup_size, require_bytes, u16_at};
@@ -507,4 +511,55 @@ pub fn lookup_there(table: &[u8], is_64: bool) -> u64
         Ok(()) => lookup_number(table, 0, is_64),
         Err(_) => 0,
     }
+}
+
+impl<'a> Steps<DelayWalk, DelayLibrary> for NamedView<'a> {
+    ghost steps = { λ s. Numbered directory_number (StepsKeptDelayLibraries s.view.now) };
+
+    fn step(&self, walk: &mut DelayWalk) -> std::result::Result<Option<DelayLibrary>, u32> {
+        match step_dll(self, walk) {
+            Ok(library) => Ok(library),
+            Err(error) => Err(number_of_directory(&error)),
+        }
+    }
+}
+
+/// Lists the DLLs of a walk.
+pub fn list_libraries(
+    names: &NamedView<'_>,
+    walk: &mut DelayWalk,
+    entries: &mut [DelayLibrary],
+    written: &mut u64,
+) -> u32
+    ensures { HandsOutList (Numbered directory_number (StepsKeptDelayLibraries names.now.view.now))
+        result walk.old walk.new entries.old entries.new written.old written.new }
+{
+    hand_out_list(names, walk, entries, written)
+}
+
+impl<'a> Steps<DelayedFunctionWalk, DelayedFunction> for NamedView<'a> {
+    ghost steps = { λ s. Numbered directory_number (StepsKeptFunctions s.view.now) };
+
+    fn step(
+        &self,
+        walk: &mut DelayedFunctionWalk,
+    ) -> std::result::Result<Option<DelayedFunction>, u32> {
+        match step_function(self, walk) {
+            Ok(function) => Ok(function),
+            Err(error) => Err(number_of_directory(&error)),
+        }
+    }
+}
+
+/// Lists the functions of a walk.
+pub fn list_functions(
+    names: &NamedView<'_>,
+    walk: &mut DelayedFunctionWalk,
+    entries: &mut [DelayedFunction],
+    written: &mut u64,
+) -> u32
+    ensures { HandsOutList (Numbered directory_number (StepsKeptFunctions names.now.view.now))
+        result walk.old walk.new entries.old entries.new written.old written.new }
+{
+    hand_out_list(names, walk, entries, written)
 }

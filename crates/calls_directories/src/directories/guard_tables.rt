@@ -7,12 +7,16 @@ ghost use Rattle.std.specs.Prelude.{◌≡◌, ◌+◌, ◌<◌, ◌^◌};
 ghost use Rattle.pe_directories.specs.DirectoryRefusals.{directory_answer};
 ghost use Rattle.pe_directories.specs.GuardTables.{guarded_view};
 ghost use Rattle.calls_base.specs.Directories.{step_of};
-ghost use Rattle.calls_directories.specs.GuardTables.{entries_after, entries_of, entry_reported, first_entry_in, guard_table_at, place_of};
+ghost use Rattle.calls_directories.specs.GuardTables.{entries_after, entries_of, entry_reported, first_entry_in, guard_table_at, place_of, StepsGuardEntries};
 ghost use Rattle.calls_base.specs.Views.{may_map};
+ghost use Rattle.calls_base.specs.DirectoryResults.{directory_number};
+ghost use Rattle.calls_base.specs.Lists.{Numbered};
 
 use calls_base::directories::{Result, image_at, offset_of_va, range_left};
 use calls_base::image::{LOAD_CONFIG_TABLE, directory, is_absent};
+use calls_base::lists::Steps;
 use calls_base::ranges::{NO_BYTES, Range, slice_of};
+use calls_base::results::number_of_directory;
 use calls_base::view::View;
 use pe_directories::{GuardEntry as Entry, GuardTable, LoadConfig};
 
@@ -165,4 +169,21 @@ pub fn next_entry(bytes: &[u8], walk: &mut GuardEntries) -> Result<Option<GuardE
         ..before
     };
     Ok(Some(entry_reported(&before, &entry)))
+}
+
+/// Steps over the entries of a table.
+#[derive(Clone, Copy)]
+pub struct Entries<'a> {
+    pub bytes: &'a [u8],
+}
+
+impl<'a> Steps<GuardEntries, GuardEntry> for Entries<'a> {
+    ghost steps = { λ s. Numbered directory_number (StepsGuardEntries s.bytes.now) };
+
+    fn step(&self, walk: &mut GuardEntries) -> std::result::Result<Option<GuardEntry>, u32> {
+        match next_entry(self.bytes, walk) {
+            Ok(entry) => Ok(entry),
+            Err(error) => Err(number_of_directory(&error)),
+        }
+    }
 }

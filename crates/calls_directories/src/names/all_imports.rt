@@ -10,13 +10,17 @@ ghost use Rattle.calls_directories.specs.LibraryImports.{StepsLibraryImports, al
 ghost use Rattle.calls_base.specs.KeptSections.{ChangeNothing};
 ghost use Rattle.calls_base.specs.NearMaps.{IsWindow};
 ghost use Rattle.calls_base.specs.Views.{map_of};
+ghost use Rattle.calls_base.specs.HandsOut.{result_number};
+ghost use Rattle.calls_base.specs.Lists.{HandsOutList, Numbered};
+ghost use Rattle.calls_directories.specs.KeptWalks.{StepsNearLibraryImports};
 
 use crate::names::imports::{
     Import, Imports, Libraries, Library, NO_LIBRARIES, kept_after_library_step, library_step_kept,
     put_entry_names, record_left,
 };
-use crate::names::near_imports::step_near;
-use calls_base::kept_sections::KeptSections;
+use crate::names::near_imports::{NearLibraryImports, step_near};
+use calls_base::kept_sections::{KeptSections, NO_SECTIONS};
+use calls_base::lists::{Steps, hand_out_list, numbered};
 use calls_base::named_view::NamedView;
 use calls_base::near_map::{NO_WINDOW, Window, map_near};
 use calls_base::ranges::{NO_BYTES, Range, bytes_there};
@@ -246,4 +250,57 @@ pub fn put_names(view: &View, walk: &LibraryImports, most: usize, room: &mut [Ru
         left = left.saturating_sub(entries.len() / size);
     }
     count
+}
+
+/// Steps over the imports of all libraries in a list.
+#[derive(Clone, Copy)]
+pub struct InLibraries;
+
+impl<'a> Steps<NearLibraryImports<'a>, LibraryImport> for InLibraries {
+    ghost steps = { λ s. Numbered result_number StepsNearLibraryImports };
+
+    fn step(
+        &self,
+        near: &mut NearLibraryImports<'a>,
+    ) -> std::result::Result<Option<LibraryImport>, u32> {
+        let NearLibraryImports {
+            names,
+            mut walk,
+            mut hints,
+            mut kept,
+            ..
+        } = *near;
+        let given = step(&names, &mut walk, &mut hints, &mut kept);
+        *near = NearLibraryImports {
+            names,
+            walk,
+            hints,
+            kept,
+        };
+        numbered(given)
+    }
+}
+
+/// Lists the imports of a walk.
+#[tactic(auto, using(calls_base::proofs::NearMaps::no_window))]
+pub fn list_library_imports(
+    names: &NamedView<'_>,
+    walk: &mut LibraryImports,
+    entries: &mut [LibraryImport],
+    written: &mut u64,
+) -> u32
+    ensures { HandsOutList (Numbered result_number (StepsLibraryImports
+        (map_of names.now.view.now)
+        (entry_size (names.now.view.now.image.now.width == 64)) names.now.view.now.bytes.now))
+        result walk.old walk.new entries.old entries.new written.old written.new }
+{
+    let mut near = NearLibraryImports {
+        names: *names,
+        walk: *walk,
+        hints: NO_WINDOW,
+        kept: NO_SECTIONS,
+    };
+    let number = hand_out_list(&InLibraries, &mut near, entries, written);
+    *walk = near.walk;
+    number
 }

@@ -2,7 +2,7 @@
 //! long text: then a list reads them together, in a room of the caller.
 
 ghost use Rattle.std.specs.Prelude.{◌≡◌, ◌+◌, ◌*◌, ◌≤◌, length};
-ghost use Rattle.calls_directories.specs.ExportWindows.{AreNear};
+ghost use Rattle.calls_directories.specs.Exports.{AreNear};
 ghost use Rattle.calls_base.specs.NearMaps.{IsWindow};
 ghost use Rattle.calls_base.specs.Views.{map_of};
 

@@ -7,16 +7,20 @@ ghost use Rattle.std.specs.Prelude.{◌≡◌, ◌==◌, ◌+◌, ◌<◌, ◌�
 ghost use Rattle.pe_core.specs.Imports.{entry_size, name_or_refusal};
 ghost use Rattle.pe_core.specs.Refusals.{Returns, ReturnsAs, answer_of};
 ghost use Rattle.pe_core.specs.Text.{text_at};
-ghost use Rattle.calls_base.specs.KeptSections.{ChangeNothing, map_kept};
-ghost use Rattle.calls_directories.specs.KeptWalks.{StepsKeptImports, StepsKeptLibraries};
+ghost use Rattle.calls_base.specs.KeptSections.{ChangeNothing, map_kept, no_sections};
+ghost use Rattle.calls_directories.specs.KeptWalks.{StepsKeptImports, StepsKeptLibraries, StepsNearImports};
 ghost use Rattle.calls_base.specs.NearMaps.{IsWindow};
 ghost use Rattle.calls_base.specs.Views.{map_of};
 ghost use Rattle.calls_directories.specs.Imports.{hint_rva, import_at, import_step, libraries_at, library_at, library_of, library_step, named_reported};
+ghost use Rattle.calls_base.specs.HandsOut.{result_number};
+ghost use Rattle.calls_base.specs.Lists.{HandsOutList, Numbered};
 
+use crate::names::near_imports::{NearImports, step_near};
 use calls_base::image::{IMPORT_TABLE, directory, is_absent};
 use calls_base::kept_sections::{
-    KeptSections, NO_SECTIONS, keeps_sections, kept_after, map_kept, require_kept,
+    KeptSections, NO_SECTIONS, keeps_none, keeps_sections, kept_after, map_kept, require_kept,
 };
+use calls_base::lists::{Steps, hand_out_list, numbered};
 use calls_base::named_view::NamedView;
 use calls_base::near_map::{NO_WINDOW, Window, map_near};
 use calls_base::ranges::{NO_BYTES, Range, bytes_there, range_from};
@@ -391,9 +395,10 @@ pub fn record_left(view: &View, walk: &Libraries, index: usize) -> Option<Import
     if entry.is_last() { None } else { Some(entry) }
 }
 
-/// Writes the offsets of the names of the next libraries to a room, as starts, as far as it has room, and returns how many they are.
+/// Writes the offsets of the names of the next libraries, or of their lists, to a room, as starts, as far as it has room, and returns
+/// how many they are.
 #[tactic(auto, using(calls_base::proofs::NearMaps::no_window))]
-pub fn put_library_names(view: &View, walk: &Libraries, room: &mut [Run]) -> usize
+fn put_offsets(view: &View, walk: &Libraries, of_lists: bool, room: &mut [Run]) -> usize
     ensures { result ≤ length room.new }
 {
     let mut count = 0;
@@ -402,26 +407,12 @@ pub fn put_library_names(view: &View, walk: &Libraries, room: &mut [Run]) -> usi
         let Some(entry) = record_left(view, walk, i) else {
             break;
         };
-        if let Some(offset) = map_near(view, entry.name_rva, &mut near) {
-            room[count] = Run::at(offset);
-            count += 1;
-        }
-    }
-    count
-}
-
-/// The same of the offsets of their lists.
-#[tactic(auto, using(calls_base::proofs::NearMaps::no_window))]
-pub fn put_library_lists(view: &View, walk: &Libraries, room: &mut [Run]) -> usize
-    ensures { result ≤ length room.new }
-{
-    let mut count = 0;
-    let mut near = NO_WINDOW;
-    for i in 0..room.len() {
-        let Some(entry) = record_left(view, walk, i) else {
-            break;
+        let rva = if of_lists {
+            entry.lookups_rva()
+        } else {
+            entry.name_rva
         };
-        if let Some(offset) = map_near(view, entry.lookups_rva(), &mut near) {
+        if let Some(offset) = map_near(view, rva, &mut near) {
             room[count] = Run::at(offset);
             count += 1;
         }
@@ -429,7 +420,7 @@ pub fn put_library_lists(view: &View, walk: &Libraries, room: &mut [Run]) -> usi
     count
 }
 
-/// The same of the offsets of the names of imports, of which these are the entries. An ordinal counts as the RVA of a name, which
+/// Writes the offsets of the names of imports, of which these are the entries, in the same way. An ordinal counts as the RVA of a name, which
 /// costs a run that is not asked for.
 pub fn put_entry_names(view: &View, entries: &[u8], near: &mut Window, room: &mut [Run]) -> usize
     requires { IsWindow (map_of view.now) near.old }
@@ -463,4 +454,107 @@ pub fn hint_rva(view: &View, walk: &Imports) -> u32
         Ok(()) => (lookup_number(left, 0, is_64) % 0x8000_0000) as u32,
         Err(_) => 0,
     }
+}
+
+impl<'a> Steps<LibraryWalk, Library> for NamedView<'a> {
+    ghost steps = { λ s. Numbered result_number (StepsKeptLibraries s.view.now) };
+
+    fn step(&self, walk: &mut LibraryWalk) -> std::result::Result<Option<Library>, u32> {
+        numbered(step_library(self, walk))
+    }
+}
+
+/// Lists the libraries of a walk.
+pub fn list_libraries(
+    names: &NamedView<'_>,
+    walk: &mut LibraryWalk,
+    entries: &mut [Library],
+    written: &mut u64,
+) -> u32
+    ensures { HandsOutList (Numbered result_number (StepsKeptLibraries names.now.view.now))
+        result walk.old walk.new entries.old entries.new written.old written.new }
+{
+    hand_out_list(names, walk, entries, written)
+}
+
+/// An image of which the names and lists of the next libraries are read together: a half of the room is for each.
+pub fn named_libraries<'a>(
+    view: &'a View<'a>,
+    walk: &Libraries,
+    room: &'a mut [Run],
+) -> NamedView<'a>
+    ensures { result.view.now ≡ view.entry.now }
+{
+    let half = room.len() / 2;
+    let (name_room, list_room) = room.split_at_mut(half);
+    let names = put_offsets(view, walk, false, name_room);
+    let lists = put_offsets(view, walk, true, list_room);
+    NamedView::with_lists(view, &mut name_room[..names], &mut list_room[..lists])
+}
+
+/// Steps over imports in a list.
+#[derive(Clone, Copy)]
+pub struct InLibrary;
+
+impl<'a> Steps<NearImports<'a>, Import> for InLibrary {
+    ghost steps = { λ s. Numbered result_number StepsNearImports };
+
+    #[inline(always)]
+    fn step(&self, near: &mut NearImports<'a>) -> std::result::Result<Option<Import>, u32> {
+        let NearImports {
+            names,
+            mut walk,
+            mut hints,
+            ..
+        } = *near;
+        let given = step_near(&names, &mut walk, &mut hints);
+        *near = NearImports { names, walk, hints };
+        numbered(given)
+    }
+}
+
+impl<'a> Steps<ImportWalk, Import> for NamedView<'a> {
+    ghost steps = { λ s. Numbered result_number (StepsKeptImports s.view.now) };
+
+    fn step(&self, walk: &mut ImportWalk) -> std::result::Result<Option<Import>, u32> {
+        numbered(step_import(self, walk))
+    }
+}
+
+/// Lists the imports of a walk that keeps no sections.
+#[tactic(auto, using(calls_base::proofs::NearMaps::no_window))]
+fn list_near(
+    names: &NamedView<'_>,
+    walk: &mut ImportWalk,
+    entries: &mut [Import],
+    written: &mut u64,
+) -> u32
+    requires { walk.old.kept ≡ no_sections }
+    ensures { HandsOutList (Numbered result_number (StepsKeptImports names.now.view.now))
+        result walk.old walk.new entries.old entries.new written.old written.new }
+{
+    let mut near = NearImports {
+        names: *names,
+        walk: walk.imports,
+        hints: NO_WINDOW,
+    };
+    let number = hand_out_list(&InLibrary, &mut near, entries, written);
+    walk.imports = near.walk;
+    number
+}
+
+/// Lists the imports of a walk step by step: one, for which no window is made, and those of a walk that keeps sections.
+pub fn list_imports(
+    names: &NamedView<'_>,
+    walk: &mut ImportWalk,
+    entries: &mut [Import],
+    written: &mut u64,
+) -> u32
+    ensures { HandsOutList (Numbered result_number (StepsKeptImports names.now.view.now))
+        result walk.old walk.new entries.old entries.new written.old written.new }
+{
+    if entries.len() > 1 && keeps_none(&walk.kept) {
+        return list_near(names, walk, entries, written);
+    }
+    hand_out_list(names, walk, entries, written)
 }

@@ -1,8 +1,7 @@
 //! Exports in a list. Their names mostly lie in one section, and what is exported in another one: a list keeps both.
 
 ghost use Rattle.std.specs.Prelude.{◌≡◌, ◌+◌, ◌*◌, ◌/◌, ◌≤◌, length, Ok};
-ghost use Rattle.calls_directories.specs.Exports.{FindsNext, reported_entry, tables_or_short, view_of};
-ghost use Rattle.calls_directories.specs.ExportWindows.{AreNear};
+ghost use Rattle.calls_directories.specs.Exports.{FindsNext, reported_entry, tables_or_short, view_of, AreNear};
 ghost use Rattle.calls_base.specs.Views.{map_of};
 
 use crate::names::exports::{Export, Exports, Tables, forwarder_if};

@@ -14,12 +14,18 @@ ghost use Rattle.calls_base.specs.KeptSections.{map_kept};
 ghost use Rattle.calls_directories.specs.KeptWalks.{StepsKeptLeaves};
 ghost use Rattle.calls_base.specs.Views.{map_of, may_map};
 ghost use Rattle.calls_directories.specs.ResourceLeaves.{after_item, content_of, first_item, items_left, leaf_reported, leaves_walk, name_in, position_of, walk_at};
+ghost use Rattle.calls_base.specs.HandsOut.{result_number};
+ghost use Rattle.calls_base.specs.Lists.{Numbered};
+ghost use Rattle.calls_directories.specs.VersionBlocks.{StepsVersionBlocks};
+ghost use Rattle.calls_base.specs.TreeResults.{tree_number};
 
 use crate::resources::version::range_by;
+use crate::resources::version_blocks::{VersionBlock, next_block};
 use calls_base::image::directory;
 use calls_base::kept_sections::{KeptSections, kept_after, sections_for};
+use calls_base::lists::{Steps, numbered};
 use calls_base::ranges::{NO_BYTES, Range, range_of, slice_of};
-use calls_base::results::{DONE, number_of, options};
+use calls_base::results::{DONE, number_of, number_of_tree, options};
 use calls_base::view::{View, sections_of};
 use pe_core::{ByteRange, DataDirectory, MappedBytes, Result};
 use pe_resource::{LeafPosition, ResourceData, ResourceEntry, ResourceTreeError};
@@ -260,4 +266,35 @@ pub fn step_leaf(
         walk.kept = kept_after(view, walk.kept, leaf.rva);
     }
     given
+}
+
+/// Steps over the leaves of a resource tree.
+#[derive(Clone, Copy)]
+pub struct Leaves<'a> {
+    pub view: &'a View<'a>,
+}
+
+impl<'a> Steps<LeafWalk, ResourceLeaf> for Leaves<'a> {
+    ghost steps = { λ s. Numbered tree_number (StepsKeptLeaves s.view.now) };
+
+    fn step(&self, walk: &mut LeafWalk) -> std::result::Result<Option<ResourceLeaf>, u32> {
+        match step_leaf(self.view, walk) {
+            Ok(leaf) => Ok(leaf),
+            Err(error) => Err(number_of_tree(&error)),
+        }
+    }
+}
+
+/// Steps over blocks of version information.
+#[derive(Clone, Copy)]
+pub struct Blocks<'a> {
+    pub bytes: &'a [u8],
+}
+
+impl<'a> Steps<Range, VersionBlock> for Blocks<'a> {
+    ghost steps = { λ s. Numbered result_number (StepsVersionBlocks s.bytes.now) };
+
+    fn step(&self, walk: &mut Range) -> std::result::Result<Option<VersionBlock>, u32> {
+        numbered(next_block(self.bytes, walk))
+    }
 }

@@ -1,7 +1,7 @@
 //! Why a bound DLL is refused.
 
 ghost use Rattle.std.specs.Prelude.{◌≡◌, Ok};
-ghost use Rattle.calls_failures.specs.BoundFailures.{bound_numbers, bound_short};
+ghost use Rattle.calls_failures.specs.StepFailures.{bound_numbers, bound_short};
 ghost use Rattle.calls_directories.specs.BoundImports.{first_bound};
 ghost use Rattle.calls_base.specs.Directories.{step_of};
 ghost use Rattle.calls_base.specs.FailureNumbers.{directory_refused, failure_by};
@@ -37,7 +37,7 @@ fn bound_short(bytes: &[u8], table: &Range, walk: &Range) -> ErrorNumbers
 }
 
 /// The numbers of the failure of the DLL that a walk is at.
-#[tactic(auto, unfolding(crate::specs::BoundFailures::bound_numbers))]
+#[tactic(auto, unfolding(crate::specs::StepFailures::bound_numbers))]
 pub fn bound_numbers(bytes: &[u8], table: &Range, walk: &Range, number: u32) -> ErrorNumbers
     ensures { result ≡ bound_numbers bytes.now table.now walk.now number }
 {

@@ -1,7 +1,7 @@
 //! Why a DLL that is loaded late is refused, or what is imported of it.
 
 ghost use Rattle.std.specs.Prelude.{◌≡◌, ◌==◌, Ok};
-ghost use Rattle.calls_failures.specs.DelayFailures.{address_numbers, delay_import_numbers, delayed_function_numbers, function_short, hint_at, name_offset, refused_address};
+ghost use Rattle.calls_failures.specs.StepFailures.{address_numbers, delay_import_numbers, delayed_function_numbers, function_short, hint_at, name_offset, refused_address};
 ghost use Rattle.calls_directories.specs.DelayImports.{first_library_in, first_of_walk};
 ghost use Rattle.calls_base.specs.Directories.{step_of};
 ghost use Rattle.calls_base.specs.FailureNumbers.{directory_refused, failure_by};
@@ -67,7 +67,7 @@ fn refused_address(entry: &[u8], name: Option<usize>) -> u32
 }
 
 /// The numbers of the failure of the DLL that a walk is at.
-#[tactic(auto, unfolding(crate::specs::DelayFailures::delay_import_numbers))]
+#[tactic(auto, unfolding(crate::specs::StepFailures::delay_import_numbers))]
 pub fn delay_import_numbers(view: &View, walk: &Range, number: u32) -> ErrorNumbers
     ensures { result ≡ delay_import_numbers (map_of view.now) view.now.bytes.now view.now.image.now
         walk.now number }
@@ -120,7 +120,7 @@ fn function_short(bytes: &[u8], is_64: bool, left: &Range, hint: u64) -> ErrorNu
 }
 
 /// The numbers of the failure of what a walk is at.
-#[tactic(auto, unfolding(crate::specs::DelayFailures::delayed_function_numbers))]
+#[tactic(auto, unfolding(crate::specs::StepFailures::delayed_function_numbers))]
 pub fn delayed_function_numbers(view: &View, walk: &DelayedFunctions, number: u32) -> ErrorNumbers
     ensures { result ≡ delayed_function_numbers (map_of view.now) view.now.bytes.now
         view.now.image.now walk.now number }

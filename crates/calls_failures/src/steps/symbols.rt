@@ -3,7 +3,7 @@
 ghost use Rattle.std.specs.Prelude.{◌≡◌};
 ghost use Rattle.calls_headers.specs.Coff.{symbol_name_at};
 ghost use Rattle.calls_base.specs.FailureNumbers.{failure_by, refused};
-ghost use Rattle.calls_failures.specs.SymbolFailures.{string_offset_at, symbol_name_numbers};
+ghost use Rattle.calls_failures.specs.StepFailures.{string_offset_at, symbol_name_numbers};
 
 use calls_base::numbers::{
     ErrorNumbers, Failure, SHORT, STRING_TABLE, failure_with, needed_in, no_numbers, numbers,
@@ -29,7 +29,7 @@ fn string_offset_at(bytes: &[u8], table: &Range, index: u64) -> u32
 }
 
 /// The numbers of the failure of the name of the symbol in an entry.
-#[tactic(auto, unfolding(crate::specs::SymbolFailures::symbol_name_numbers))]
+#[tactic(auto, unfolding(crate::specs::StepFailures::symbol_name_numbers))]
 pub fn symbol_name_numbers(
     bytes: &[u8],
     table: &Range,

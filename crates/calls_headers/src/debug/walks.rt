@@ -5,9 +5,12 @@
 ghost use Rattle.std.specs.Prelude.{◌≡◌, ◌+◌, ◌≤◌, ◌^◌, length, Ok};
 ghost use Rattle.pe_core.specs.Refusals.{answer_of};
 ghost use Rattle.pe_records.specs.DebugDirectory.{debug_entry_at};
-ghost use Rattle.calls_headers.specs.DebugWalks.{IsNamed, StepsPogo, StepsPogoEntries, StepsOverPogo, pogo_entry};
+ghost use Rattle.calls_headers.specs.Debug.{IsNamed, StepsPogo, StepsPogoEntries, StepsOverPogo, pogo_entry};
 ghost use Rattle.calls_base.specs.Walks.{next_of, walk_of};
+ghost use Rattle.calls_base.specs.HandsOut.{result_number};
+ghost use Rattle.calls_base.specs.Lists.{Numbered};
 
+use calls_base::lists::{Steps, numbered};
 use calls_base::ranges::{NO_BYTES, Range, slice_of};
 use calls_base::walks::next_entry;
 use pe_core::{Result, rounded_up};
@@ -96,5 +99,19 @@ pub fn next_pogo_reported(bytes: &[u8], walk: &mut Range) -> Result<Option<PogoE
         Some(Ok(entry)) => Ok(Some(pogo_entry(&here, &entry))),
         None => Ok(None),
         Some(Err(error)) => Err(error),
+    }
+}
+
+/// Steps over the entries of a POGO record.
+#[derive(Clone, Copy)]
+pub struct PogoEntries<'a> {
+    pub bytes: &'a [u8],
+}
+
+impl<'a> Steps<Range, PogoEntry> for PogoEntries<'a> {
+    ghost steps = { λ s. Numbered result_number (StepsPogoEntries s.bytes.now) };
+
+    fn step(&self, walk: &mut Range) -> std::result::Result<Option<PogoEntry>, u32> {
+        numbered(next_pogo_reported(self.bytes, walk))
     }
 }

@@ -1,7 +1,7 @@
 //! A record of a minidump by the kind of its stream: one record has a field for each kind, so that one call reads them all.
 
 ghost use Rattle.std.specs.Prelude.{◌≡◌};
-ghost use Rattle.calls_stacks.specs.AnyRecords.{alone, any_record};
+ghost use Rattle.calls_stacks.specs.DumpRecords.{alone, any_record};
 ghost use Rattle.calls_stacks.specs.Dumps.{DumpHandsOutIf, dump_answer};
 
 use crate::dump::lists::{

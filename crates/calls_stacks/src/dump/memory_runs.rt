@@ -5,7 +5,7 @@
 ghost use Rattle.std.specs.Prelude.{◌≡◌, ◌+◌, ◌-◌, ◌≤◌, ◌^◌, IsTrue, Some, drop, length, map, nat_le, take};
 ghost use Rattle.pe_core.specs.Bytes.{holds};
 ghost use Rattle.pe_frame.specs.MemoryLists.{are_inside, ascend, lists_byte};
-ghost use Rattle.calls_stacks.specs.DumpRuns.{part_in, range_in};
+ghost use Rattle.calls_stacks.specs.DumpMemory.{part_in, range_in};
 ghost use Rattle.pe_stacks.specs.MemoryRuns.{end_low};
 
 use calls_base::ranges::{NO_BYTES, Range};

@@ -3,7 +3,10 @@
 ghost use Rattle.std.specs.Prelude.{◌≡◌};
 ghost use Rattle.calls_stacks.specs.Dumps.{dump_answer};
 ghost use Rattle.calls_stacks.specs.DumpRecords.{exception_at, misc_at, misc_reported, system_at, system_reported};
+ghost use Rattle.calls_stacks.specs.DumpMemory.{fits};
 
+use crate::dump::lists::DumpModule;
+use calls_base::image::Image;
 use calls_base::ranges::Range;
 use pe_minidump::{
     Exception, MiscInfo, ProcessTimes, ProcessorPower, Result, SystemInfo, exception_of, located,
@@ -131,4 +134,13 @@ pub fn misc_at(bytes: &[u8], stream: &Range) -> Result<DumpProcess>
 {
     let misc = misc_of(located(bytes, stream.offset, stream.length)?)?;
     Ok(misc_reported(&misc))
+}
+
+/// Whether an image is that of a module.
+pub fn fits(image: &Image, module: &DumpModule) -> bool
+    ensures { result ≡ fits image.now module.now }
+{
+    image.width != 0
+        && image.time_date_stamp == module.time_date_stamp
+        && image.size_of_image == module.size_of_image
 }

@@ -4,11 +4,17 @@
 ghost use Rattle.std.specs.Prelude.{◌≡◌, ◌+◌, ◌*◌, ◌≤◌, ◌^◌, length};
 ghost use Rattle.pe_core.specs.Refusals.{answer_of, answer_by};
 ghost use Rattle.pe_unwind.specs.Arm64Encoding.{bit};
-ghost use Rattle.calls_unwind.specs.Arm64.{case_number, numbers_of, arm64_walk_at, left_of_stream, StepsOverArm64, WalksInArm64};
+ghost use Rattle.calls_unwind.specs.Arm64.{case_number, numbers_of, arm64_walk_at, left_of_stream, StepsOverArm64, WalksInArm64, StepsArm64Codes, arm64_function_in};
+ghost use Rattle.calls_base.specs.HandsOut.{result_number};
+ghost use Rattle.calls_base.specs.Lists.{Numbered, StepsByIndex, if_there};
 
+use crate::arm64::functions::function_in;
+use calls_base::lists::{Steps, if_there, next_index, numbered};
 use calls_base::ranges::{NO_BYTES, Range, slice_of};
 use pe_core::{Error, Reason, Result};
-use pe_unwind::{Arm64CustomStackCase, Arm64UnwindCode, Arm64UnwindCodeIterator};
+use pe_unwind::{
+    Arm64CustomStackCase, Arm64RuntimeFunction, Arm64UnwindCode, Arm64UnwindCodeIterator,
+};
 
 /// The most bytes that a stream of codes can have: the largest multiple of 4 that fits 32 bits.
 const LONGEST_STREAM: u64 = 4_294_967_292;
@@ -223,5 +229,35 @@ pub fn next_code(bytes: &[u8], walk: &mut Arm64CodeWalk) -> Result<Option<Arm64C
             *walk = OVER;
             Err(error)
         }
+    }
+}
+
+/// Steps over the entries of a function table.
+#[derive(Clone, Copy)]
+pub struct Functions<'a> {
+    pub bytes: &'a [u8],
+    pub table: &'a Range,
+}
+
+impl<'a> Steps<u64, Arm64RuntimeFunction> for Functions<'a> {
+    ghost steps = { λ s. Numbered result_number
+        (StepsByIndex (λ i. if_there (arm64_function_in s.bytes.now s.table.now i))) };
+
+    fn step(&self, index: &mut u64) -> std::result::Result<Option<Arm64RuntimeFunction>, u32> {
+        next_index(if_there(function_in(self.bytes, self.table, *index)), index)
+    }
+}
+
+/// Steps over a stream of codes.
+#[derive(Clone, Copy)]
+pub struct Codes<'a> {
+    pub bytes: &'a [u8],
+}
+
+impl<'a> Steps<Arm64CodeWalk, Arm64Code> for Codes<'a> {
+    ghost steps = { λ s. Numbered result_number (StepsArm64Codes s.bytes.now) };
+
+    fn step(&self, walk: &mut Arm64CodeWalk) -> std::result::Result<Option<Arm64Code>, u32> {
+        numbered(next_code(self.bytes, walk))
     }
 }

@@ -7,8 +7,7 @@ ghost use Rattle.calls_unwind.specs.CodeBytes.{HasCodes, IsFrequent, PutsCodes, 
 ghost use Rattle.calls_base.specs.HandsOut.{result_number};
 ghost use Rattle.calls_base.specs.Lists.{HandsOutList, Numbered, StepsByIndex, by_number, if_there};
 ghost use Rattle.calls_base.specs.Ranges.{bytes_at};
-ghost use Rattle.calls_unwind.specs.RecordCodes.{HandsOutAll};
-ghost use Rattle.calls_unwind.specs.Unwinding.{StepsCodes, flat_answer, function_in};
+ghost use Rattle.calls_unwind.specs.Unwinding.{HandsOutAll, StepsCodes, flat_answer, function_in};
 
 use crate::unwinding::{Code, CodeWalk, flat, function_in, next_code, plain};
 use calls_base::lists::{Steps, hand_out_list, if_there, next_index};

@@ -1,6 +1,7 @@
 //! Laws of minidumps: what the ranges that calls return have to do with the dump as pe_minidump reads it.
 
-ghost use Rattle.std.specs.Prelude.{◌≡◌, ◌⊎◌, ℕ, List, Some, Ok, true};
+ghost use Rattle.std.specs.Prelude.{◌≡◌, ◌⊎◌, ℕ, List, Some, Ok, true, Result};
+ghost use Rattle.std.specs.List.Sorted.{IsNonDecreasing, IsNonDecreasingBy, IsPermutation};
 ghost use Rattle.pe_core.specs.Bytes.{range};
 ghost use Rattle.pe_core.specs.Header.{HeaderView};
 ghost use Rattle.pe_frame.specs.Arm64Walks as arm64;
@@ -25,12 +26,9 @@ ghost use Rattle.pe_stacks.specs.ThreadContexts.{thread_context};
 ghost use Rattle.calls_stacks.specs.Arm64StackWalks.{arm64_stack_walks};
 ghost use Rattle.calls_stacks.specs.Arm64StackWalks as arm64_walks;
 ghost use Rattle.calls_stacks.specs.DumpContexts.{any_context, arm64_reported, context_arm64_at, context_x64_at, thread_context_at, x64_reported};
-ghost use Rattle.calls_stacks.specs.DumpImages.{fits};
-ghost use Rattle.pe_c.specs.DumpLaws.{IsStreamOf, as_reported, memory_range};
-ghost use Rattle.calls_stacks.specs.AnyRecords.{any_record};
-ghost use Rattle.calls_stacks.specs.DumpMemory.{described, memory64_at, piece_reported};
-ghost use Rattle.calls_stacks.specs.DumpRecords.{entry_in, exception_at, misc_at, module_reported, name_reported, region_reported, reported_in, system_at};
-ghost use Rattle.calls_stacks.specs.DumpRuns.{range_in};
+ghost use Rattle.calls_stacks.specs.DumpMemory.{fits, described, memory64_at, piece_reported, range_in};
+ghost use Rattle.pe_c.specs.DumpLaws.{IsStreamOf, as_reported, memory_range, all_named, all_placed, with_lines};
+ghost use Rattle.calls_stacks.specs.DumpRecords.{any_record, entry_in, exception_at, misc_at, module_reported, name_reported, region_reported, reported_in, system_at};
 ghost use Rattle.calls_stacks.specs.Dumps.{DumpHandsOut, DumpHandsOutIf, dump_entry_at, dump_stream_at};
 ghost use Rattle.calls_stacks.specs.FrameCalls.{HandsOutFrame};
 ghost use Rattle.calls_base.specs.Images.{image_info_of};
@@ -44,6 +42,19 @@ ghost use Rattle.calls_stacks.specs.declared.dump.contexts.AnyContext.{AnyContex
 ghost use Rattle.calls_stacks.specs.declared.dump.contexts.TheConstants.{ARM64_MACHINE, X64_MACHINE};
 ghost use Rattle.calls_stacks.specs.declared.stack.walk.ModuleView.{ModuleView};
 ghost use Rattle.calls_stacks.specs.declared.stack.walk.StackWalk.{StackWalk};
+ghost use Rattle.pe_pdb.specs.LineIndexes.{AreEntries};
+ghost use Rattle.pe_pdb.specs.LineKeys.{line_key};
+ghost use Rattle.pe_pdb.specs.Refusals.{PdbRefusal};
+ghost use Rattle.pe_pdb.specs.declared.line_entries.CodeLine.{CodeLine};
+ghost use Rattle.pe_pdb.specs.declared.line_entries.LineEntry.{LineEntry};
+ghost use Rattle.pe_pdb.specs.declared.symbol_entries.SymbolClass.{SymbolClass};
+ghost use Rattle.calls_pdb.specs.PdbIndexes.{FindsSymbol, ReadsSymbol, indexed};
+ghost use Rattle.calls_pdb.specs.PdbInlined.{inlined_functions};
+ghost use Rattle.calls_pdb.specs.PdbLines.{FindsLine, ReadsLine, indexed_lines};
+ghost use Rattle.calls_pdb.specs.Pdbs.{stream_numbered, stream_range};
+ghost use Rattle.calls_pdb.specs.declared.inlined.PdbInlined.{PdbInlined};
+ghost use Rattle.calls_pdb.specs.declared.modules.PdbModule.{PdbModule};
+ghost use Rattle.calls_pdb.specs.declared.symbols.PdbSymbol.{PdbSymbol};
 
 /// The range that `pe_c_dump_stream` returns lies in the bytes, and these are the bytes of the stream of the kind, as `Dump::stream`
 /// returns it of a dump with this directory.
@@ -162,4 +173,31 @@ pub fn walks_over_runs_are_over_pieces()
         HandsOutFrame arm64.Calls arm64_stack_walks views memory runs number old new →
         (newer : Arm64StackWalk) × HandsOutFrame arm64.Calls arm64_stack_walks views memory pieces number older newer
         × (arm64_walks.marked newer ≡ arm64_walks.marked new) }
+{}
+
+/// Which functions are inlined at an RVA, and where, is read of the stream of their module, the one that the call takes. Whatever the stream
+/// of ids is, or the starts of its records, they have the same lines; whatever the lines of the module are, the same names. That other
+/// modules change no frame of an RVA is the law of this name in pe_pdb.
+pub fn frames_of_module_alone()
+    ensures lines { (b : List ℕ) (m : PdbModule) (s : PdbSymbol) (rva : ℕ) (ids starts other_ids other_starts : List ℕ) →
+        all_placed (inlined_functions b m s rva ids starts) ≡ all_placed (inlined_functions b m s rva other_ids other_starts) }
+    ensures names { (b : List ℕ) (m : PdbModule) (s : PdbSymbol) (rva : ℕ) (ids starts : List ℕ) (lines : Range) →
+        all_named (inlined_functions b m s rva ids starts) ≡ all_named (inlined_functions b (with_lines m lines) s rva ids starts) }
+{}
+
+/// Where `pe_c_pdb_stream_range` returns a range of the file, its bytes are those that `pe_c_pdb_stream` copies.
+pub fn stream_range_is_stream()
+    ensures { (b starts : List ℕ) (index : ℕ) (r : Range) →
+        stream_range b starts index ≡ Ok (Some r) → stream_numbered b starts index ≡ Ok (range b r.offset r.length) }
+{}
+
+/// By an index that `pe_c_pdb_index` or `pe_c_pdb_lines` made a lookup returns what the call without one returns: what a call without one
+/// returns is one answer, so both are the same.
+pub fn reading_is_lookup()
+    ensures symbols { (class : SymbolClass) (b : List ℕ) (r : Range) (sections xs index : List ℕ) (rva number : ℕ) (old new : PdbSymbol) →
+        indexed class b r sections ≡ Ok xs → IsPermutation xs index → IsNonDecreasing index →
+        FindsSymbol class b sections index rva number old new → ReadsSymbol class b (indexed class b r sections) sections rva number old new }
+    ensures lines { (b : List ℕ) (r : Range) (sections : List ℕ) (xs : List CodeLine) (index : List LineEntry) (rva number : ℕ) (old new : CodeLine) →
+        indexed_lines b r sections ≡ Ok xs → AreEntries xs index → IsNonDecreasingBy line_key index →
+        FindsLine index rva number old new → ReadsLine (indexed_lines b r sections) rva number old new }
 {}

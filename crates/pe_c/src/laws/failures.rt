@@ -20,7 +20,7 @@ ghost use Rattle.calls_headers.specs.Debug.{characteristics_of, checksum_of, deb
 ghost use Rattle.calls_failures.specs.DebugFailures.{record_refusal};
 ghost use Rattle.calls_directories.specs.DelayImports.{first_library_in, first_of_walk};
 ghost use Rattle.calls_base.specs.Directories.{first_in, step_of, table_at, tls_at};
-ghost use Rattle.calls_directories.specs.Relocations.{block_reported, relocation_reported};
+ghost use Rattle.calls_directories.specs.DirectoryRuns.{block_reported, relocation_reported};
 ghost use Rattle.calls_failures.specs.DirectoryFailures.{certificate_table, directory_refusal};
 ghost use Rattle.calls_directories.specs.Exports.{tables_at};
 ghost use Rattle.calls_base.specs.FailureNumbers.{Agrees, AllAgree, DirectoriesAgree, TreesAgree, directory_refused, refused, tree_refused};
@@ -29,7 +29,7 @@ ghost use Rattle.calls_base.specs.Images.{for_directory, image_at, map_by};
 ghost use Rattle.calls_directories.specs.Imports.{import_step, libraries_at, library_step};
 ghost use Rattle.calls_directories.specs.LoadConfigs.{load_config_at};
 ghost use Rattle.calls_directories.specs.ResourceLeaves.{first_item, items_left, leaves_start};
-ghost use Rattle.calls_headers.specs.Te.{te_image_at, te_section};
+ghost use Rattle.calls_headers.specs.Headers.{te_image_at, te_section};
 ghost use Rattle.calls_failures.specs.UnwindFailures.{LinksEnd};
 ghost use Rattle.calls_unwind.specs.Unwinding.{FollowsToRecord, HandsOutCode, HandsOutRecord, StepsCodes, exception_table_at};
 ghost use Rattle.calls_unwind.specs.declared.arm64.codes.Arm64Code.{Arm64Code};

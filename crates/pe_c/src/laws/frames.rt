@@ -27,6 +27,12 @@ ghost use Rattle.calls_base.specs.declared.ranges.Range.{Range};
 ghost use Rattle.calls_stacks.specs.declared.stack.walk.ModuleView.{ModuleView};
 ghost use Rattle.calls_stacks.specs.declared.stack.walk.StackWalk.{StackWalk};
 ghost use Rattle.calls_base.specs.declared.view.View.{View};
+ghost use Rattle.pe_core.specs.declared.section_table.SectionTable.{SectionTable};
+ghost use Rattle.pe_unwind.specs.Arm64Lookup.{length_by, length_of_arm64};
+ghost use Rattle.pe_unwind.specs.Arm64Unwinding.{info_by, info_of_function};
+ghost use Rattle.pe_unwind.specs.declared.arm64.function.Arm64RuntimeFunction.{Arm64RuntimeFunction};
+ghost use Rattle.calls_unwind.specs.Arm64.{arm64_record_in, arm64_record_of};
+ghost use Rattle.calls_base.specs.declared.image.Image.{Image};
 
 /// The sections of a view map RVAs as the section map of its exception data does (`steps`), and a walk maps those of a module as its
 /// view does (`walks`). So by a view without an index, or with one that `pe_c_index` made (`laws::indexes`), steps and walks read
@@ -117,4 +123,18 @@ pub fn calls_give_the_frames()
         (end : WalkEnd) × IsWalk arm64.Calls (state_in arm64_stack_walks
         (record { memory = listed_word memory pieces; modules = modules_of views }) w) frames end
         × HasEnd arm64_stack_walks last end }
+{}
+
+/// By the map of an image's sections the length of an ARM64 function, its record, and the record that a step of a stack walk reads,
+/// are those of pe_unwind.
+#[tactic(auto, using(calls_unwind::proofs::Arm64Maps::records_of_sections, calls_unwind::proofs::Arm64Maps::infos_of_sections))]
+pub fn arm64_records_are_those_of_the_image()
+    ensures lengths { (b : List ℕ) (image : Image) (sections : List SectionTable) (f : Arm64RuntimeFunction) →
+        length_by (map_of_image image sections) b f
+        ≡ length_of_arm64 b (map_view (options_of image.mode) sections image.file_alignment) f }
+    ensures records { (b : List ℕ) (image : Image) (sections : List SectionTable) (f : Arm64RuntimeFunction) →
+        arm64_record_of (map_of_image image sections) b image f ≡ arm64_record_in b image sections f }
+    ensures infos { (v : ExceptionView) (image : Image) (sections : List SectionTable) (f : Arm64RuntimeFunction) →
+        v.alignment ≡ image.file_alignment →
+        info_by (map_of_image image sections) v.content f ≡ info_of_function v sections (options_of image.mode) f }
 {}

@@ -1,9 +1,9 @@
 //! Laws of lists in one call: what list calls write, one after the other, is what the steps of the walk return.
 
-ghost use Rattle.std.specs.Prelude.{ℕ, Option, List};
+ghost use Rattle.std.specs.Prelude.{ℕ, Option, List, ◌≡◌};
 ghost use Rattle.pe_core.specs.declared.section_table.SectionTable.{SectionTable};
 ghost use Rattle.calls_unwind.specs.Arm64.{StepsArm64Codes, arm64_function_in};
-ghost use Rattle.calls_headers.specs.DebugWalks.{StepsPogoEntries};
+ghost use Rattle.calls_headers.specs.Debug.{StepsPogoEntries};
 ghost use Rattle.calls_base.specs.DirectoryResults.{directory_number};
 ghost use Rattle.calls_directories.specs.DirectoryRuns.{StepsBlocks, StepsBoundImports, StepsForwarders, StepsRelocations};
 ghost use Rattle.calls_directories.specs.ExportAddresses.{exported_at};
@@ -13,17 +13,18 @@ ghost use Rattle.calls_directories.specs.LibraryFunctions.{StepsLibraryFunctions
 ghost use Rattle.calls_directories.specs.LibraryImports.{StepsLibraryImports};
 ghost use Rattle.calls_base.specs.Lists.{GiveLists, StepsByIndex, if_there};
 ghost use Rattle.calls_directories.specs.VersionBlocks.{StepsVersionBlocks};
-ghost use Rattle.calls_headers.specs.NamedSymbols.{StepsNamedSymbols};
+ghost use Rattle.calls_headers.specs.Coff.{StepsNamedSymbols};
 ghost use Rattle.calls_pdb.specs.PdbModules.{StepsModules};
 ghost use Rattle.calls_pdb.specs.PdbSymbols.{StepsPdbSymbols};
 ghost use Rattle.calls_pdb.specs.Pdbs.{pdb_number};
 ghost use Rattle.calls_base.specs.TreeResults.{tree_number};
-ghost use Rattle.calls_headers.specs.SectionNames.{long_name_by_index};
+ghost use Rattle.calls_headers.specs.Headers.{long_name_by_index};
 ghost use Rattle.calls_unwind.specs.Unwinding.{StepsCodes, function_in};
 ghost use Rattle.calls_directories.specs.declared.names.export_addresses.AddressTable.{AddressTable};
 ghost use Rattle.calls_base.specs.declared.image.Image.{Image};
 ghost use Rattle.calls_base.specs.declared.ranges.Range.{Range};
 ghost use Rattle.calls_base.specs.declared.view.View.{View};
+ghost use Rattle.calls_base.specs.declared.results.TheConstants.{BAD_ADDRESS, BAD_OPERATION, DONE, LONG_CHAIN, MISSING, NOTHING, NOT_RISING, OUT_OF_ORDER, ROOM};
 
 /// Where the steps of a walk return some items, which the laws of walks say for each of them, a list call with room for `n`
 /// entries returns the first `n`, or all that come before the end or before an error, and the walk after it has the other items
@@ -65,4 +66,18 @@ pub fn lists_are_what_steps_return()
     ensures pdb_symbols { (b sections : List ℕ) → GiveLists pdb_number (StepsPdbSymbols b sections) }
     ensures long_section_names { (b : List ℕ) (strings : Range) (sections : List SectionTable) →
         GiveLists result_number (StepsByIndex (long_name_by_index b strings sections)) }
+{}
+
+/// What a call returns that succeeded, that found nothing, or for which an array of the caller is too small; and the errors of a
+/// step of a stack walk.
+pub fn constants_of_results()
+    ensures done { DONE ≡ 0 }
+    ensures nothing { NOTHING ≡ 100 }
+    ensures room { ROOM ≡ 101 }
+    ensures missing { MISSING ≡ 102 }
+    ensures bad_address { BAD_ADDRESS ≡ 103 }
+    ensures bad_operation { BAD_OPERATION ≡ 104 }
+    ensures not_rising { NOT_RISING ≡ 105 }
+    ensures long_chain { LONG_CHAIN ≡ 106 }
+    ensures out_of_order { OUT_OF_ORDER ≡ 107 }
 {}

@@ -10,8 +10,8 @@ ghost use Rattle.calls_signatures.specs.NameWalks.{name_in};
 ghost use Rattle.calls_signatures.specs.SignatureParts.{StepsElements, algorithm_in, left_place, parsed};
 ghost use Rattle.calls_signatures.specs.Signatures.{attribute_in, image_data_in, indirect_data_in, opus_info_in, signature_in, signer_in, time_in, time_stamp_in};
 ghost use Rattle.calls_signatures.specs.X509.{extension_in, key_usage_in, x509_in};
-ghost use Rattle.pe_c.specs.declared.signatures.parts.TheConstants.{PART_ALGORITHM, PART_ATTRIBUTE, PART_EXTENSION, PART_IMAGE_DATA, PART_INDIRECT_DATA, PART_KEY_USAGE, PART_NAME, PART_OPUS_INFO, PART_SIGNATURE, PART_SIGNER, PART_TIME, PART_TIME_STAMP, PART_X509};
-ghost use Rattle.pe_c.specs.PartLaws.{ReadsField, ReadsFieldIf};
+ghost use Rattle.pe_c.specs.declared.signatures.TheConstants.{PART_ALGORITHM, PART_ATTRIBUTE, PART_EXTENSION, PART_IMAGE_DATA, PART_INDIRECT_DATA, PART_KEY_USAGE, PART_NAME, PART_OPUS_INFO, PART_SIGNATURE, PART_SIGNER, PART_TIME, PART_TIME_STAMP, PART_X509};
+ghost use Rattle.pe_c.specs.AnyParts.{ReadsField, ReadsFieldIf};
 ghost use Rattle.calls_base.specs.declared.ranges.Range.{Range};
 
 /// A walk over a range that lies in the bytes returns, one a step and in their order, exactly the elements that pe_pkcs7 walks

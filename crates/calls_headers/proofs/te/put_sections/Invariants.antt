@@ -1,6 +1,6 @@
 use Rattle.std.proofs.Common.{◌≡◌, length, take, drop}
 use Rattle.pe_core.specs.Rows.{rows}
-use Rattle.calls_headers.specs.Te.{te_section}
+use Rattle.calls_headers.specs.Headers.{te_section}
 use Rattle.calls_headers.proofs.te.put_sections.Given as goal
 
 -- the first i sections are read, and after them is what was there

@@ -1,5 +1,5 @@
 use Rattle.std.proofs.Common.{◌∙◌, arith, length-set, refl}
-use Rattle.calls_stacks.specs.DumpRuns.{range_in}
+use Rattle.calls_stacks.specs.DumpMemory.{range_in}
 use Rattle.calls_base.proofs.MappedRooms.{more_mapped, others_left}
 use Rattle.calls_stacks.proofs.dump.memory_runs.put_ranges.Goals as goal
 

@@ -1,5 +1,5 @@
 use Rattle.std.proofs.Common.{◌≡◌, drop, length, map, take}
-use Rattle.calls_stacks.specs.DumpRuns.{range_in}
+use Rattle.calls_stacks.specs.DumpMemory.{range_in}
 use Rattle.calls_stacks.proofs.dump.memory_runs.put_ranges.Given as goal
 
 -- the first i are found, and the others as they were
