@@ -4,6 +4,7 @@ pub mod CallWalks
 pub mod OneFrames
 pub mod RunWalks
 pub mod StepMaps
+pub mod PlainSteps
 pub mod ViewedModules
 pub mod WalkFrames
 pub mod Arm64WalkFrames

@@ -30,7 +30,7 @@ pub allocated_more : (b : List ℕ) → 4 ≤ length b → slice_index b 1 % 16 
 allocated_more b some op info = subst (λ (n : ℕ). IsFrequent b (Alloc (n * 8)) 4) (sym (word_at_2 b)) (allocated_words b some op info)
 
 -- nothing is known of such a code
-plain : (c : UnwindCode) → sets_frame_register c.operation ≡ false → interrupts c.operation ≡ false → nothing_known ≡ survey_with None nothing_known c
+pub plain : (c : UnwindCode) → sets_frame_register c.operation ≡ false → interrupts c.operation ≡ false → nothing_known ≡ survey_with None nothing_known c
 plain c sets stops = same_survey nothing_known (survey_with None nothing_known c) (rw sets refl) (rw sets refl) (rw stops refl)
 
 -- before the first code

@@ -22,6 +22,8 @@ pub mod SomeFunction
 pub mod SomeShortPlan
 pub mod FunctionSearch
 pub mod FunctionSteps
+pub mod PlainRecords
+pub mod PlainFrames
 pub mod FrameWalks
 pub mod Scans
 pub mod FrameRecords

@@ -6,6 +6,7 @@ pub mod Undoing
 pub mod Steps
 pub mod InPlace
 pub mod Survey
+pub mod PlainRecords
 pub mod Epilogs
 pub mod Jumps
 pub mod FunctionSteps

@@ -14,7 +14,7 @@ use pe_core::read_u16;
 use pe_unwind::{Register, UnwindOperation};
 
 /// The size of a slot in bytes.
-const SIZE_OF_SLOT: usize = 2;
+pub(crate) const SIZE_OF_SLOT: usize = 2;
 
 /// The opcodes of these codes, by winnt.h's names.
 const UWOP_PUSH_NONVOL: u8 = 0;
@@ -25,7 +25,7 @@ const UWOP_ALLOC_SMALL: u8 = 2;
 
 /// The operation of the code at the start of the bytes, and its size, if it is a frequent one.
 #[inline(always)]
-fn frequent_code(bytes: &[u8]) -> Option<(UnwindOperation, usize)>
+pub(crate) fn frequent_code(bytes: &[u8]) -> Option<(UnwindOperation, usize)>
     ensures code { IfSome result (λ found. IsFrequent bytes.now found.0 found.1) }
     ensures some { IfSome result (λ found. 0 < found.1) }
 {

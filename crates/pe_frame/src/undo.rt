@@ -78,7 +78,7 @@ fn require_xmm(operation: UnwindOperation, register: Register) -> Result<usize, 
 }
 
 /// How far above the base of the frame a register is saved.
-fn bytes_above(offset: StackFrameOffset) -> u64
+pub(crate) fn bytes_above(offset: StackFrameOffset) -> u64
     ensures { result ≡ bytes_above offset }
 {
     match offset {

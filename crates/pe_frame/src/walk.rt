@@ -15,7 +15,7 @@
 //! What is found so may be wrong, and so may all that follows. Each frame says whether it is such a guess, and a stack is called whole
 //! only where none is.
 
-ghost use Rattle.std.specs.Prelude.{◌≡◌, ◌≤◌, ◌<◌, ◌+◌, ◌-◌, ◌^◌, Ok, Err, IsTrue, OnErr, true};
+ghost use Rattle.std.specs.Prelude.{◌≡◌, ◌≤◌, ◌<◌, ◌+◌, ◌-◌, ◌^◌, Ok, Err, IsTrue, OnErr, true, false};
 ghost use Rattle.std.specs.Option.{is_none, option_map};
 ghost use Rattle.std.specs.Iterator.{at_most};
 ghost use Rattle.pe_lookup.specs.AddressRanges.{has_address};
@@ -35,6 +35,7 @@ use crate::function_step::step_in_function_in_place;
 use crate::jump::ImageFunctions;
 use crate::memory::{Memory, SIZE_OF_WORD};
 use crate::modules::{Module, ModuleMap, Modules};
+use crate::plain::step_by_plain_record;
 use crate::plan::Stopped;
 use crate::position::{WalkFrame, WalkPosition};
 use crate::process::{CallSites, LoadedModules};
@@ -768,8 +769,10 @@ fn caller_by_records<L: CallSites, M: Memory>(
     frame_after(modules, memory, left, frame)
 }
 
-/// The same with the frame as it was where it has no caller: by then a step may have changed some of its registers.
-fn become_caller_by_records<L: CallSites, M: Memory>(
+/// The same with the frame as it was where it has no caller: by then a step may have changed some of its registers. Out of line, as
+/// few frames that have called are in a function without a plain record: the others do not pay for the room of another frame.
+#[inline(never)]
+fn become_caller_by_any_records<L: CallSites, M: Memory>(
     modules: &L,
     found: &FrameFunction<'_>,
     frame: &mut StackFrame,
@@ -790,6 +793,71 @@ fn become_caller_by_records<L: CallSites, M: Memory>(
             Err(end)
         }
     }
+}
+
+/// Makes a frame that has called that of its caller, by the plain record of its function. False where the function has no such record,
+/// where the step is refused, and where it leads to 0: then the frame stays.
+#[inline(always)]
+fn becomes_caller_by_plain_record<L: CallSites, M: Memory>(
+    modules: &L,
+    found: &FrameFunction<'_>,
+    frame: &mut StackFrame,
+    rva: u32,
+    memory: &M,
+) -> bool
+    requires { rva ≡ frame.old.registers.rip - found.now.module.now.base }
+    ensures caller { IsTrue result → CallsFound (M.word memory.now) (L.list modules.now)
+        found.now.module.now found.now.exceptions.now
+        frame.old (Some found.now.function) (Ok frame.new) }
+    ensures kept { result ≡ false → frame.new ≡ frame.old }
+{
+    if !frame.has_called {
+        return false;
+    }
+    let FrameFunction {
+        module,
+        exceptions,
+        function,
+    } = *found;
+    let map = ModuleMap { module, exceptions };
+    let functions = ImageFunctions {
+        exceptions,
+        map: &map,
+    };
+    let before = frame.registers.general;
+    let general = &mut frame.registers.general;
+    match step_by_plain_record(&functions, function, rva, general, memory) {
+        Some(rip) if rip != 0 => {
+            frame.registers.rip = rip;
+            found_in(modules, Way::Records, frame);
+            true
+        }
+        _ => {
+            frame.registers.general = before;
+            false
+        }
+    }
+}
+
+/// Makes a frame that of its caller, by the records of the function that lookup found, or says why there is none: then the frame stays.
+/// Nearly all frames have called, in functions with plain records, which are tried first.
+fn become_caller_by_records<L: CallSites, M: Memory>(
+    modules: &L,
+    found: &FrameFunction<'_>,
+    frame: &mut StackFrame,
+    rva: u32,
+    memory: &M,
+) -> Result<(), WalkEnd>
+    requires { rva ≡ frame.old.registers.rip - found.now.module.now.base }
+    ensures caller { CallsFound (M.word memory.now) (L.list modules.now)
+        found.now.module.now found.now.exceptions.now
+        frame.old (Some found.now.function) (frame_left result frame.new) }
+    ensures kept { OnErr result (frame.new ≡ frame.old) }
+{
+    if becomes_caller_by_plain_record(modules, found, frame, rva, memory) {
+        return Ok(());
+    }
+    become_caller_by_any_records(modules, found, frame, rva, memory)
 }
 
 /// Makes a frame that of its caller, by the module that has its lookup address, or says why there is none: then the frame

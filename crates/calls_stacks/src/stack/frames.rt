@@ -2,13 +2,14 @@
 //! and the memory of its stack. A walk makes it again and again, from the innermost frame outwards.
 //! https://learn.microsoft.com/cpp/build/exception-handling-x64
 
-ghost use Rattle.std.specs.Prelude.{◌≡◌, ◌<◌, Ok, Err, length};
+ghost use Rattle.std.specs.Prelude.{◌≡◌, ◌<◌, Ok, Err, IsTrue, false, length};
 ghost use Rattle.pe_core.specs.Refusals.{Returns};
 ghost use Rattle.pe_core.specs.Rows.{each};
 ghost use Rattle.pe_frame.specs.InPlace.{changed_with};
 ghost use Rattle.pe_frame.specs.Undoing.{popped};
 ghost use Rattle.calls_stacks.specs.StackFrames.{whole_xmm, half_xmm, registers_of, flat_registers, error_number, error_address, at_address, exceptions_by, StepsOf, StepsIn, HandsOutLeft, HandsOutLeftOr, HandsOutOver, HandsOutPopped};
 ghost use Rattle.calls_base.specs.Views.{map_of};
+ghost use Rattle.calls_base.specs.declared.results.TheConstants.{DONE};
 
 use calls_base::ranges::Range;
 use calls_base::results::{
@@ -16,7 +17,10 @@ use calls_base::results::{
 };
 use calls_base::view::View;
 use pe_core::{ByteRange, Result, RvaMap};
-use pe_frame::{FrameError, ImageFunctions, Memory, Registers, Stopped, step_in_function_in_place};
+use pe_frame::{
+    FrameError, ImageFunctions, Memory, Registers, Stopped, step_by_plain_record,
+    step_in_function_in_place,
+};
 use pe_unwind::{ExceptionData, RuntimeFunction};
 
 /// The stack pointer among the integer registers.
@@ -249,8 +253,9 @@ fn put_caller(
     }
 }
 
-/// A step by the records of the frame's function in an image, and its number.
-fn step_of<R: RvaMap, M: Memory>(
+/// A step by the records of the frame's function in an image, and its number. Out of line, as few functions have no plain record.
+#[inline(never)]
+fn step_by_any_records<R: RvaMap, M: Memory>(
     functions: &ImageFunctions<'_, R>,
     code: &[u8],
     memory: &M,
@@ -269,6 +274,57 @@ fn step_of<R: RvaMap, M: Memory>(
         Ok(None) => LONG_CHAIN,
         Err(error) => number_of(&error),
     }
+}
+
+/// Makes a step by the plain record of the frame's function where the registers are, which are not copied. False where there is code,
+/// or the function has no such record, or the step is refused: then the frame stays.
+#[inline(always)]
+fn steps_by_plain_record<R: RvaMap, M: Memory>(
+    functions: &ImageFunctions<'_, R>,
+    code: &[u8],
+    memory: &M,
+    frame: &mut StackFrame,
+) -> bool
+    ensures step { IsTrue result → StepsOf functions.now.exceptions.now (R.offset functions.now.map.now) code.now
+        (M.word memory.now) frame.old (HandsOutLeftOr DONE frame.old frame.new) }
+    ensures kept { result ≡ false → frame.new ≡ frame.old }
+{
+    if !code.is_empty() {
+        return false;
+    }
+    let (function, rva) = (frame.function, frame.rva);
+    let before = frame.registers.general;
+    let general = &mut frame.registers.general;
+    match step_by_plain_record(functions, function, rva, general, memory) {
+        Some(rip) => {
+            // They stay, as the compiler finds: the halves of the registers that have these halves.
+            frame.registers.xmm = half_registers(&whole_registers(&frame.registers.xmm));
+            frame.registers.rip = rip;
+            frame.interrupted = 0;
+            true
+        }
+        None => {
+            frame.registers.general = before;
+            false
+        }
+    }
+}
+
+/// A step by the records of the frame's function in an image, and its number.
+#[inline(always)]
+fn step_of<R: RvaMap, M: Memory>(
+    functions: &ImageFunctions<'_, R>,
+    code: &[u8],
+    memory: &M,
+    frame: &mut StackFrame,
+) -> u32
+    ensures { StepsOf functions.now.exceptions.now (R.offset functions.now.map.now) code.now
+        (M.word memory.now) frame.old (HandsOutLeftOr result frame.old frame.new) }
+{
+    if steps_by_plain_record(functions, code, memory, frame) {
+        return DONE;
+    }
+    step_by_any_records(functions, code, memory, frame)
 }
 
 /// The exception data of an image whose function table is at a range. Error: `Short` if the table does not lie in the bytes.

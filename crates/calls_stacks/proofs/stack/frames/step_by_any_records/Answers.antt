@@ -5,7 +5,7 @@ use Rattle.pe_frame.specs.FunctionSteps.{StepsInFunction}
 use Rattle.pe_frame.specs.InPlace.{changed_with}
 use Rattle.pe_frame.specs.declared.error.FrameError.{FrameError}
 use Rattle.pe_frame.specs.declared.registers.Registers.{Registers}
-use Rattle.calls_stacks.proofs.stack.frames.step_of.Goals as goal
+use Rattle.calls_stacks.proofs.stack.frames.step_by_any_records.Goals as goal
 
 pub returns-in-Ok-Some : goal.returns-in-Ok-Some
 returns-in-Ok-Some g c =
