@@ -86,7 +86,10 @@ pub fn first_key(view: &View) -> Result<Option<SymbolKey>>
         view.now.bytes.now view.now.image.now (directory_sections view.now 6) }
 {
     let entry = first_entry(view, IMAGE_DEBUG_TYPE_CODEVIEW)?;
-    key_at(view.bytes, view.image.mode, entry)
+    entry.map_or(
+        Ok(None),
+        |entry| key_of(view.bytes, view.image.mode, &entry),
+    )
 }
 
 /// Entries whose records are read, each of its own type or none.
@@ -235,103 +238,6 @@ pub struct DebugRecords {
     pub characteristics_result: u32,
 }
 
-/// The symbol key of an entry, if there is one.
-#[inline(always)]
-fn key_at(bytes: &[u8], mode: u32, entry: Option<ImageDebugDirectory>) -> Result<Option<SymbolKey>>
-    ensures { answer_of result ≡ of_entry (key_of bytes.now mode) entry }
-{
-    match entry {
-        Some(entry) => key_of(bytes, mode, &entry),
-        None => Ok(None),
-    }
-}
-
-/// The record of PDB 2.0 of an entry, if there is one.
-fn pdb20_at(bytes: &[u8], mode: u32, entry: Option<ImageDebugDirectory>) -> Result<Option<Pdb20>>
-    ensures { answer_of result ≡ of_entry (pdb20_of bytes.now mode) entry }
-{
-    match entry {
-        Some(entry) => pdb20_of(bytes, mode, &entry),
-        None => Ok(None),
-    }
-}
-
-/// The Repro record of an entry, if there is one.
-fn repro_at(bytes: &[u8], mode: u32, entry: Option<ImageDebugDirectory>) -> Result<Option<Repro>>
-    ensures { answer_of result ≡ of_entry (repro_of bytes.now mode) entry }
-{
-    match entry {
-        Some(entry) => repro_of(bytes, mode, &entry),
-        None => Ok(None),
-    }
-}
-
-/// The POGO record of an entry, if there is one.
-fn pogo_at(bytes: &[u8], mode: u32, entry: Option<ImageDebugDirectory>) -> Result<Option<Pogo>>
-    ensures { answer_of result ≡ of_entry (pogo_of bytes.now mode) entry }
-{
-    match entry {
-        Some(entry) => pogo_of(bytes, mode, &entry),
-        None => Ok(None),
-    }
-}
-
-/// The embedded PDB of an entry, if there is one.
-fn embedded_at(
-    bytes: &[u8],
-    mode: u32,
-    entry: Option<ImageDebugDirectory>,
-) -> Result<Option<EmbeddedPdb>>
-    ensures { answer_of result ≡ of_entry (embedded_of bytes.now mode) entry }
-{
-    match entry {
-        Some(entry) => embedded_of(bytes, mode, &entry),
-        None => Ok(None),
-    }
-}
-
-/// The checksum of the PDB of an entry, if there is one.
-fn checksum_at(
-    bytes: &[u8],
-    mode: u32,
-    entry: Option<ImageDebugDirectory>,
-) -> Result<Option<PdbChecksum>>
-    ensures { answer_of result ≡ of_entry (checksum_of bytes.now mode) entry }
-{
-    match entry {
-        Some(entry) => checksum_of(bytes, mode, &entry),
-        None => Ok(None),
-    }
-}
-
-/// The counts of VC features of an entry, if there is one.
-fn features_at(
-    bytes: &[u8],
-    mode: u32,
-    entry: Option<ImageDebugDirectory>,
-) -> Result<Option<VCFeatureInfo>>
-    ensures { answer_of result ≡ of_entry (features_of bytes.now mode) entry }
-{
-    match entry {
-        Some(entry) => features_of(bytes, mode, &entry),
-        None => Ok(None),
-    }
-}
-
-/// The extended DLL characteristics of an entry, if there is one.
-fn characteristics_at(
-    bytes: &[u8],
-    mode: u32,
-    entry: Option<ImageDebugDirectory>,
-) -> Result<Option<u32>>
-    ensures { answer_of result ≡ of_entry (characteristics_of bytes.now mode) entry }
-{
-    match entry {
-        Some(entry) => characteristics_of(bytes, mode, &entry),
-        None => Ok(None),
-    }
-}
-
 /// Reads the record of each entry, with a result of its own.
 pub fn read_records(bytes: &[u8], mode: u32, entries: &TypedEntries, out: &mut DebugRecords)
     ensures key { HandsOutIf out.new.key_result out.old.key out.new.key
@@ -352,26 +258,38 @@ pub fn read_records(bytes: &[u8], mode: u32, entries: &TypedEntries, out: &mut D
         (of_entry (characteristics_of bytes.now mode) entries.now.first.characteristics) }
 {
     let first = &entries.first;
-    out.key_result = hand_out_some(key_at(bytes, mode, first.codeview), &mut out.key);
-    out.pdb20_result = hand_out_some(pdb20_at(bytes, mode, first.codeview), &mut out.pdb20);
-    out.repro_result = hand_out_some(repro_at(bytes, mode, first.repro), &mut out.repro);
-    out.pogo_result = hand_out_some(pogo_at(bytes, mode, first.pogo), &mut out.pogo);
-    out.embedded_result = hand_out_some(
-        embedded_at(bytes, mode, entries.embedded),
-        &mut out.embedded,
-    );
-    out.checksum_result = hand_out_some(
-        checksum_at(bytes, mode, entries.checksum),
-        &mut out.checksum,
-    );
-    out.features_result = hand_out_some(
-        features_at(bytes, mode, first.features),
-        &mut out.features,
-    );
-    out.characteristics_result = hand_out_some(
-        characteristics_at(bytes, mode, first.characteristics),
-        &mut out.characteristics,
-    );
+    let key = first
+        .codeview
+        .map_or(Ok(None), |entry| key_of(bytes, mode, &entry));
+    out.key_result = hand_out_some(key, &mut out.key);
+    let pdb20 = first
+        .codeview
+        .map_or(Ok(None), |entry| pdb20_of(bytes, mode, &entry));
+    out.pdb20_result = hand_out_some(pdb20, &mut out.pdb20);
+    let repro = first
+        .repro
+        .map_or(Ok(None), |entry| repro_of(bytes, mode, &entry));
+    out.repro_result = hand_out_some(repro, &mut out.repro);
+    let pogo = first
+        .pogo
+        .map_or(Ok(None), |entry| pogo_of(bytes, mode, &entry));
+    out.pogo_result = hand_out_some(pogo, &mut out.pogo);
+    let embedded = entries
+        .embedded
+        .map_or(Ok(None), |entry| embedded_of(bytes, mode, &entry));
+    out.embedded_result = hand_out_some(embedded, &mut out.embedded);
+    let checksum = entries
+        .checksum
+        .map_or(Ok(None), |entry| checksum_of(bytes, mode, &entry));
+    out.checksum_result = hand_out_some(checksum, &mut out.checksum);
+    let features = first
+        .features
+        .map_or(Ok(None), |entry| features_of(bytes, mode, &entry));
+    out.features_result = hand_out_some(features, &mut out.features);
+    let characteristics = first
+        .characteristics
+        .map_or(Ok(None), |entry| characteristics_of(bytes, mode, &entry));
+    out.characteristics_result = hand_out_some(characteristics, &mut out.characteristics);
 }
 
 /// Each result is the number of what refuses the table of entries, and each record is as it was.
