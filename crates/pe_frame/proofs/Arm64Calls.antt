@@ -1,24 +1,14 @@
 -- What the loops over the codes of an ARM64 record keep.
-use Rattle.pe_core.specs.Refusals.{◌>>=◌}
-use Rattle.std.proofs.Common.{◌≡◌, ℕ, zero, suc, ◌+◌, ◌≤◌, inl, true, false, eqb, List, [], ◌∷◌, length, drop, Option, Some, None, Result, Ok, Err, refl, ap, sym, ◌∙◌, subst, arith}
-use Rattle.std.proofs.lemmas.Bool.{eqb-true}
-use Rattle.std.proofs.lemmas.List.{length-drop, drop-drop, drop_all}
-use Rattle.pe_unwind.specs.declared.arm64.codes.Arm64UnwindCode.{Arm64UnwindCode}
-use Rattle.pe_unwind.specs.declared.arm64.codes.Arm64UnwindCode.TheVariants.{SaveNext}
-use Rattle.pe_frame.specs.declared.arm64.registers.Arm64Registers.{Arm64Registers}
-use Rattle.pe_frame.specs.declared.error.FrameError.{FrameError}
-use Rattle.pe_frame.specs.declared.error.FrameError.TheVariants.{Arm64Code}
-use Rattle.pe_frame.specs.Arm64Operations.{is_save_next}
-use Rattle.pe_frame.specs.Arm64Undoing.{undone_codes}
-use Rattle.pe_frame.specs.Arm64Steps.{is_end_c, CodesThen, AreOver, HasArm64Codes, prolog_length}
-use Rattle.pe_frame.specs.Arm64Reading.{IsFirstCode, ReadsCodes, read_only, with_nexts}
+use Rattle.std.proofs.Common.{◌≡◌, ℕ, zero, suc, ◌+◌, ◌≤◌, true, false, eqb, List, ◌∷◌, length, drop, Option, Some, None, Result, Ok, Err, refl, ap, sym, ◌∙◌, subst, arith, []}
+use Rattle.pe_frame.proofs.Cited.{◌>>=◌, eqb-true, length-drop, drop-drop, drop_all, Arm64UnwindCode, SaveNext, Arm64Registers, FrameError}
+use Rattle.pe_frame.proofs.Cited.{Arm64Code, is_save_next, undone_codes, is_end_c, CodesThen, AreOver, HasArm64Codes, prolog_length}
+use Rattle.pe_frame.proofs.Cited.{IsFirstCode, ReadsCodes, read_only, with_nexts}
 use Rattle.pe_frame.proofs.Arm64Streams.{with_code, has_more, same_read, has_truncated, over_codes, truncated_none, next_arm64}
 use Rattle.pe_frame.proofs.Arm64Nexts.{is_the_next, nexts_more, nexts_then, nexts_alone}
 
 -- the codes are over where no bytes are left
 pub none_left : (rest : List ℕ) → true ≡ eqb (length rest) 0 → AreOver rest
-none_left [] e = inl refl
-none_left (x ∷ rest) e = absurd (omega (arith, eqb-true (suc (length rest)) 0 (sym e)))
+none_left rest e = grind (arith, eqb-true)
 
 -- all codes are read exactly if those that are left are
 abbrev pub Reads : List ℕ → List ℕ → Type 0
@@ -48,10 +38,10 @@ Counts codes rest n =
     (ds : List Arm64UnwindCode) × CodesThen AreOver rest ds × (prolog_length cs ≡ n + prolog_length ds)
 
 counted_one : (c : Arm64UnwindCode) (ds : List Arm64UnwindCode) (n : ℕ) → is_end_c c ≡ false → n + prolog_length (c ∷ ds) ≡ n + 1 + prolog_length ds
-counted_one c ds n not = let e : n + (prolog_length ds + 1) ≡ n + 1 + prolog_length ds = omega arith in rw not e
+counted_one c ds n not = rw not (omega arith)
 
 counted_end : (c : Arm64UnwindCode) (ds : List Arm64UnwindCode) (n : ℕ) → is_end_c c ≡ true → n + prolog_length (c ∷ ds) ≡ n
-counted_end c ds n is = let e : n + 0 ≡ n = omega arith in rw is e
+counted_end c ds n is = rw is (omega arith)
 
 pub counts_more : (codes rest : List ℕ) (c : Arm64UnwindCode) (k n : ℕ) → IsFirstCode rest (Ok (Some (c, k))) → is_end_c c ≡ false → Counts codes rest n → Counts codes (drop k rest) (n + 1)
 counts_more codes rest c k n first not inv cs are =
@@ -66,11 +56,7 @@ counts_end codes rest c k n first is inv cs are =
     sym (i.2 ∙ (ap (λ (ds : List Arm64UnwindCode). n + prolog_length ds) next.is ∙ counted_end c next.rest n is))
 
 pub counts_all : (codes rest : List ℕ) (n : ℕ) → IsFirstCode rest (Ok None) → Counts codes rest n → (cs : List Arm64UnwindCode) → CodesThen AreOver codes cs → n ≡ prolog_length cs
-counts_all codes rest n first inv cs are =
-    let i = inv cs are in
-    let none = ap (λ (ds : List Arm64UnwindCode). n + prolog_length ds) (over_codes rest i.0 first i.1) in
-    let zero_more : n + 0 ≡ n = omega arith in
-    sym (i.2 ∙ (none ∙ zero_more))
+counts_all codes rest n first inv cs are = grind (arith, over_codes)
 
 pub counts_none : (codes rest : List ℕ) (e : FrameError) (n : ℕ) → IsFirstCode rest (Err e) → Counts codes rest n → (cs : List Arm64UnwindCode) → CodesThen AreOver codes cs → n ≡ prolog_length cs
 counts_none codes rest e n first inv cs are = let i = inv cs are in absurd (truncated_none rest i.0 first.0 i.1)
@@ -114,9 +100,7 @@ undoing_next m codes rest c k n current registers first is inv cs are =
 -- the code that is read and the `save_next` before it are undone, and then the others
 pub undone_first : (m : ℕ → Option ℕ) (c : Arm64UnwindCode) (n : ℕ) (ds rest : List Arm64UnwindCode) (current : Arm64Registers) (r all : Result Arm64Registers FrameError) → ds ≡ c ∷ rest → is_save_next c ≡ false →
     r ≡ undone_codes m (with_nexts n (c ∷ [])) current → undone_codes m (with_nexts n ds) current ≡ all → (r >>= undone_codes m rest) ≡ all
-undone_first m c n ds rest current r all is not e h =
-    ap (λ (x : Result Arm64Registers FrameError). x >>= undone_codes m rest) e
-    ∙ (sym (nexts_then m n c rest current not) ∙ (ap (λ (xs : List Arm64UnwindCode). undone_codes m (with_nexts n xs) current) (sym is) ∙ h))
+undone_first m c n ds rest current r all is not e h = grind (arith, nexts_then)
 
 pub undoing_code : (m : ℕ → Option ℕ) (codes rest : List ℕ) (c : Arm64UnwindCode) (k n : ℕ) (current after registers : Arm64Registers) → IsFirstCode rest (Ok (Some (c, k))) → is_save_next c ≡ false →
     Ok after ≡ undone_codes m (with_nexts n (c ∷ [])) current → Undoing m codes rest n current registers → Undoing m codes (drop k rest) 0 after registers
@@ -141,14 +125,9 @@ over_nexts m n ds current all none h = ap (λ (xs : List Arm64UnwindCode). undon
 
 pub undoing_none : (m : ℕ → Option ℕ) (codes rest : List ℕ) (n : ℕ) (current registers : Arm64Registers) → IsFirstCode rest (Ok None) → n ≡ 0 →
     Undoing m codes rest n current registers → Undone m codes registers (Ok current)
-undoing_none m codes rest n current registers first is inv cs are =
-    let i = inv cs are in
-    ap (λ (k : ℕ). undone_codes m (with_nexts k []) current) (sym is)
-    ∙ over_nexts m n i.0 current (undone_codes m cs registers) (over_codes rest i.0 first i.1) i.2
+undoing_none m codes rest n current registers first is inv cs are = grind (arith, over_nexts, over_codes)
 
 pub undoing_nexts : (m : ℕ → Option ℕ) (codes rest : List ℕ) (n : ℕ) (current registers : Arm64Registers) → IsFirstCode rest (Ok None) → 1 ≤ n →
     Undoing m codes rest n current registers → Undone m codes registers (Err (Arm64Code SaveNext))
 undoing_nexts m codes rest zero current registers first some inv cs are = absurd (omega (arith, some))
-undoing_nexts m codes rest (suc n) current registers first some inv cs are =
-    let i = inv cs are in
-    sym (nexts_alone m n current) ∙ over_nexts m (suc n) i.0 current (undone_codes m cs registers) (over_codes rest i.0 first i.1) i.2
+undoing_nexts m codes rest (suc n) current registers first some inv cs are = grind (arith, nexts_alone, over_nexts, over_codes)

@@ -1,10 +1,7 @@
 -- Lists of codes that grow, and codes of a prolog that are undone one by one.
-use Rattle.std.proofs.Common.{◌≡◌, ℕ, zero, suc, ◌≤◌, List, [], ◌∷◌, ◌++◌, length, ap, sym, ◌∙◌, arith}
-use Rattle.std.proofs.lemmas.List.{take_at}
-use Rattle.pe_unwind.specs.declared.arm64.codes.Arm64UnwindCode.{Arm64UnwindCode}
-use Rattle.pe_frame.specs.declared.arm64.packed.PackedFrame.{PackedFrame}
-use Rattle.pe_frame.specs.Arm64CodeLists.{extended, Adds}
-use Rattle.pe_frame.specs.Arm64Packed.{integer_pair, integer_pairs, float_pair, float_pairs}
+use Rattle.std.proofs.Common.{◌≡◌, ℕ, zero, suc, ◌≤◌, List, ◌∷◌, ◌++◌, length, sym, ◌∙◌, arith, []}
+use Rattle.pe_frame.proofs.Cited.{take_at, Arm64UnwindCode, PackedFrame, extended, Adds, integer_pair, integer_pairs, float_pair}
+use Rattle.pe_frame.proofs.Cited.{float_pairs}
 
 -- a full list stays as it is
 pub full_adds : (old codes : List Arm64UnwindCode) → length old ≡ 24 → Adds old old codes
@@ -13,17 +10,11 @@ full_adds old codes full more = take_at old more 24 full ∙ sym (take_at old (c
 -- one pair less is left of those that are added
 pub integers_more : (p : PackedFrame) (old new start all : List Arm64UnwindCode) (c : Arm64UnwindCode) (i j : ℕ) → i ≡ suc j → c ≡ integer_pair p j → Adds old new (c ∷ []) →
     ((more : List Arm64UnwindCode) → extended old (integer_pairs p i ++ more) ≡ extended start (all ++ more)) → (more : List Arm64UnwindCode) → extended new (integer_pairs p j ++ more) ≡ extended start (all ++ more)
-integers_more p old new start all c i j e is adds inv more =
-    adds (integer_pairs p j ++ more)
-    ∙ (ap (λ (x : Arm64UnwindCode). extended old (x ∷ (integer_pairs p j ++ more))) is
-    ∙ (ap (λ (n : ℕ). extended old (integer_pairs p n ++ more)) (sym e) ∙ inv more))
+integers_more p old new start all c i j e is adds inv more = grind arith
 
 pub floats_more : (p : PackedFrame) (old new start all : List Arm64UnwindCode) (c : Arm64UnwindCode) (i j : ℕ) → i ≡ suc j → c ≡ float_pair p j → Adds old new (c ∷ []) →
     ((more : List Arm64UnwindCode) → extended old (float_pairs p i ++ more) ≡ extended start (all ++ more)) → (more : List Arm64UnwindCode) → extended new (float_pairs p j ++ more) ≡ extended start (all ++ more)
-floats_more p old new start all c i j e is adds inv more =
-    adds (float_pairs p j ++ more)
-    ∙ (ap (λ (x : Arm64UnwindCode). extended old (x ∷ (float_pairs p j ++ more))) is
-    ∙ (ap (λ (n : ℕ). extended old (float_pairs p n ++ more)) (sym e) ∙ inv more))
+floats_more p old new start all c i j e is adds inv more = grind arith
 
 -- none is left
 pub integers_all : (p : PackedFrame) (old start all : List Arm64UnwindCode) (i : ℕ) → i ≤ 0 →

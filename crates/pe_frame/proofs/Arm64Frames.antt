@@ -1,23 +1,11 @@
 -- Frames of a running ARM64 program are undone.
-use Rattle.pe_core.specs.Refusals.{◌>>=◌}
-use Rattle.std.proofs.Common.{◌≡◌, ℕ, ◌-◌, ◌≤◌, true, false, leb, All, List, [], ◌∷◌, drop, Option, Some, Result, Ok, Err, refl, ap, sym, ◌∙◌, arith}
-use Rattle.std.proofs.lemmas.Bool.Decides.{nat_tests}
-use Rattle.std.proofs.lemmas.List.Elements.{All-head, All-tail}
-use Rattle.pe_unwind.specs.declared.arm64.codes.Arm64UnwindCode.TheVariants.{CustomStack}
-use Rattle.pe_frame.specs.declared.arm64.entry.Arm64Entry.{Arm64Entry}
-use Rattle.pe_frame.specs.declared.arm64.operation.Arm64Operation.{Arm64Operation}
-use Rattle.pe_frame.specs.Arm64Operations.{operation_in, operations}
-use Rattle.pe_frame.specs.Steps.{registers_alone}
+use Rattle.std.proofs.Common.{◌≡◌, ℕ, ◌-◌, ◌≤◌, true, false, All, List, ◌∷◌, drop, Option, Some, Result, Ok, refl, ap, sym, ◌∙◌, arith, rules, []}
+use Rattle.pe_frame.proofs.Cited.{◌>>=◌, nat_tests, All-head, All-tail, Arm64Operation, operation_in, operations, registers_alone}
+use Rattle.pe_frame.proofs.Cited.{Arm64UnwindCode, Arm64InfoView, Arm64Registers, FrameError, link_register, put_pc, undone_codes}
+use Rattle.pe_frame.proofs.Cited.{returned_arm64, entry_by, entry_of, caller_by_list, caller_by_codes, prolog_length, ran_arm64, Leaves}
+use Rattle.pe_frame.proofs.Cited.{StepsArm64, packed_left, is_canonical, stepped_arm64_packed, run_arm64, sets_frame_pointer, IsArm64Caller}
+use Rattle.pe_frame.proofs.Cited.{Arm64Part, effects_at, IsArm64Frame}
 use Rattle.pe_frame.proofs.StepsOut.{alone}
-use Rattle.pe_unwind.specs.declared.arm64.codes.Arm64UnwindCode.{Arm64UnwindCode}
-use Rattle.pe_unwind.specs.Arm64Record.{Arm64InfoView}
-use Rattle.pe_frame.specs.declared.arm64.registers.Arm64Registers.{Arm64Registers}
-use Rattle.pe_frame.specs.declared.error.FrameError.{FrameError}
-use Rattle.pe_frame.specs.Arm64Undoing.{link_register, put_pc, undone_codes, returned_arm64, left_arm64, entry_by, entry_of, caller_by_list, caller_by_codes}
-use Rattle.pe_frame.specs.Arm64Steps.{prolog_length, ran_arm64, Leaves, StepsArm64}
-use Rattle.pe_frame.specs.Arm64Packed.{packed_left, is_canonical, stepped_arm64_packed}
-use Rattle.pe_frame.specs.Arm64Machine.{run_arm64, sets_frame_pointer, IsArm64Caller}
-use Rattle.pe_frame.specs.Arm64Frames.{Arm64Part, effects_at, IsArm64Frame}
 use Rattle.pe_frame.proofs.Arm64Streams.{step_by_codes}
 use Rattle.pe_frame.proofs.Arm64Effects.{known_codes, undone-effects, operations-drop, prolog-drop}
 use Rattle.pe_frame.proofs.Arm64Packed.{canonical_step, left_called}
@@ -25,9 +13,7 @@ use Rattle.pe_frame.proofs.Arm64Runs.{holds, known, sinks}
 use Rattle.pe_frame.proofs.Arm64Reverted.{Reverts, keeps_le, reverts}
 
 pub returned_ok : (p : ℕ) (u : Arm64Registers) → p ≤ u.sp → returned_arm64 p u ≡ Ok (put_pc u (link_register u))
-returned_ok p u above =
-    let test : leb p u.sp ≡ true = grind (arith, nat_tests) in
-    rw test refl
+returned_ok p u above = grind (arith, nat_tests)
 
 -- the effects that have run are undone
 pub reverted_entry : (p : Arm64Part) (place : ℕ) (m : ℕ → Option ℕ) (g : Arm64Registers) → IsArm64Frame p place m g → Reverts m (effects_at place p) p.entry g
@@ -39,22 +25,15 @@ reverted_entry p place m g frame =
 
 -- codes whose operations are known are of no frame of the operating system
 called_by : (cs : List Arm64UnwindCode) (c : Arm64UnwindCode) (o : Arm64Operation) → operation_in cs c ≡ Some o → (entry_by c).has_pc ≡ false
-called_by cs (CustomStack k) o e = absurd (cc e)
-called_by cs other o e = refl
+called_by cs c o e = grind arith
 
 called : (cs : List Arm64UnwindCode) (os : List Arm64Operation) → operations cs ≡ Some os → (entry_of cs).has_pc ≡ false
 called [] os e = refl
-called (c ∷ cs) os e =
-    let k = known_codes c cs os e in
-    rw (called_by cs c k.first k.first_is) (called cs k.rest k.rest_is)
-
-alone_left : (p : ℕ) (e : Arm64Entry) (x : Result Arm64Registers FrameError) → e.has_pc ≡ false → registers_alone (x >>= left_arm64 p e) ≡ (x >>= returned_arm64 p)
-alone_left p e (Ok u) call = rw call (alone (returned_arm64 p u) e.is_interrupt)
-alone_left p e (Err d) call = refl
+called (c ∷ cs) os e = search (rules, arith, known_codes, called_by, called cs)
 
 -- the registers of a caller that called
 alone_called : (m : ℕ → Option ℕ) (cs : List Arm64UnwindCode) (g : Arm64Registers) → (entry_of cs).has_pc ≡ false → registers_alone (caller_by_codes m cs g) ≡ caller_by_list m cs g
-alone_called m cs g call = alone_left g.sp (entry_of cs) (undone_codes m cs g) call
+alone_called m cs g call = grind (arith, alone)
 
 pub alone_known : (m : ℕ → Option ℕ) (cs : List Arm64UnwindCode) (os : List Arm64Operation) (g : Arm64Registers) → operations cs ≡ Some os → registers_alone (caller_by_codes m cs g) ≡ caller_by_list m cs g
 alone_known m cs os g known = alone_called m cs g (called cs os known)
@@ -65,25 +44,19 @@ pub arm64_undone : (m : ℕ → Option ℕ) (p : Arm64Part) (place : ℕ) (g : A
 arm64_undone m p place g x frame step =
     let es = effects_at place p in
     let e = reverted_entry p place m g frame in
-    let undone : undone_codes m (ran_arm64 place p.codes) g ≡ Ok e.entry =
-    undone-effects m (ran_arm64 place p.codes) (drop (prolog_length p.codes - place) p.operations) g (operations-drop (prolog_length p.codes - place) p.codes p.operations frame.known) ∙ e.is in
-    let prolog = prolog-drop (prolog_length p.codes - place) p.operations p.entry frame.prolog in
+    let undone : undone_codes m (ran_arm64 place p.codes) g ≡ Ok e.entry = undone-effects m (ran_arm64 place p.codes) (drop (prolog_length p.codes - place) p.operations) g (operations-drop (prolog_length p.codes - place) p.codes p.operations frame.known) ∙ e.is in
     let le = keeps_le (sets_frame_pointer es) es (run_arm64 es p.entry) g frame.body.stack in
-    let low = sinks es p.entry prolog in
-    let back : returned_arm64 g.sp e.entry ≡ Ok (put_pc e.entry (link_register e.entry)) = returned_ok g.sp e.entry (omega (arith, le, low, e.stack)) in
-    let is : x ≡ Ok (put_pc e.entry (link_register e.entry)) =
-    step ∙ (ap (λ (u : Result Arm64Registers FrameError). u >>= returned_arm64 g.sp) undone ∙ back) in (
+    let low = sinks es p.entry (prolog-drop (prolog_length p.codes - place) p.operations p.entry frame.prolog) in
+    let back : returned_arm64 g.sp e.entry ≡ Ok (put_pc e.entry (link_register e.entry)) = returned_ok g.sp e.entry (omega (arith, le, low, e.stack)) in (
       put_pc e.entry (link_register e.entry),
-      is,
+      step ∙ (ap (λ (u : Result Arm64Registers FrameError). u >>= returned_arm64 g.sp) undone ∙ back),
       record { stack = e.stack; returns = e.link; link = e.link; registers = e.registers; floats = e.floats },
     )
 
 none_has_pc : (cs : List Arm64UnwindCode) → All (λ c. (entry_by c).has_pc ≡ false) cs → (entry_of cs).has_pc ≡ false
 none_has_pc [] all = refl
 none_has_pc (c ∷ cs) all =
-    let first : (entry_by c).has_pc ≡ false = All-head (λ d. (entry_by d).has_pc ≡ false) c cs all in
-    let rest = none_has_pc cs (All-tail (λ d. (entry_by d).has_pc ≡ false) c cs all) in
-    rw first rest
+    rw (All-head (λ d. (entry_by d).has_pc ≡ false) c cs all) (none_has_pc cs (All-tail (λ d. (entry_by d).has_pc ≡ false) c cs all))
 
 -- a step by a record returns the registers of the caller
 pub arm64_caller : (m : ℕ → Option ℕ) (i : Arm64InfoView) (p : Arm64Part) (place stand : ℕ) (g : Arm64Registers) (x : Result Arm64Registers FrameError) → Leaves i place (Ok (ran_arm64 stand p.codes)) →

@@ -1,12 +1,8 @@
 -- The samples are frames of a running ARM64 program.
-use Rattle.std.proofs.Common.{◌≡◌, ℕ, zero, suc, ◌^◌, ◌<◌, List, get_or, inl, inr, [], ◌∷◌, refl, rules}
-use Rattle.std.specs.List.{AllByRecursion}
-use Rattle.pe_frame.specs.Arm64Operations.{all_effects}
-use Rattle.pe_frame.specs.Arm64Steps.{CodesThen, AreOver}
-use Rattle.pe_frame.specs.Arm64Packed.{packed_codes}
-use Rattle.pe_frame.specs.Arm64Machine.{IsArm64Entered, IsArm64Prolog, IsArm64Body}
-use Rattle.pe_frame.specs.Arm64Frames.{effects_at, IsArm64Frame}
-use Rattle.pe_frame.specs.Arm64Samples.{sample_arm64_machine, chained_part, chained_bytes, signed_part, signed_bytes, packed_part, packed_data, stopped, arm64_registers_of, all_known_arm64}
+use Rattle.std.proofs.Common.{◌≡◌, ℕ, zero, suc, ◌^◌, ◌<◌, List, get_or, inl, inr, ◌∷◌, refl, rules, []}
+use Rattle.pe_frame.proofs.Cited.{AllByRecursion, all_effects, CodesThen, AreOver, packed_codes, IsArm64Entered, IsArm64Prolog, IsArm64Body}
+use Rattle.pe_frame.proofs.Cited.{effects_at, IsArm64Frame, sample_arm64_machine, chained_part, chained_bytes, signed_part, signed_bytes}
+use Rattle.pe_frame.proofs.Cited.{packed_part, packed_data, stopped, arm64_registers_of, all_known_arm64}
 
 pub chained_codes : CodesThen AreOver chained_bytes chained_part.codes
 chained_codes = search rules

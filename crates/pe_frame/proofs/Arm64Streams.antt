@@ -1,27 +1,14 @@
 -- The codes of an ARM64 record, one after the other.
-use Rattle.std.proofs.Common.{◌≡◌, ℕ, zero, suc, ◌<◌, ◌≤◌, inl, inr, Bool, true, false, All, List, [], ◌∷◌, length, drop, Option, Some, None, Result, Ok, Err, refl, ap, sym, ◌∙◌, subst, arith}
+use Rattle.std.proofs.Common.{◌≡◌, ℕ, zero, suc, ◌<◌, ◌≤◌, inl, inr, Bool, true, false, All, List, ◌∷◌, length, drop, Option, Some, None, Result, Ok, Err, refl, ap, sym, ◌∙◌, subst, arith, []}
+use Rattle.pe_frame.proofs.Cited.{length-drop, nil_from_length, All-drop, Arm64Cut, ◌>>=◌, Malformed, Arm64UnwindCode, End, Nop, encoding}
+use Rattle.pe_frame.proofs.Cited.{StartsWithArm64Code, IsTruncatedArm64Code, Arm64InfoView, bits, starts_once, cut_starts_none, code_or_cut}
+use Rattle.pe_frame.proofs.Cited.{Arm64Epilog, Arm64Registers, FrameError, Codes, Then, OfCodes, error_kind, by_kind, registers_alone}
+use Rattle.pe_frame.proofs.Cited.{caller_by_codes, is_end, CodesThen, AreOver, AreTruncated, IsOfTruncated, HasArm64Codes, prolog_length}
+use Rattle.pe_frame.proofs.Cited.{ran_arm64, epilog_start, left_in_epilog, epilog_after, LeavesIn, Leaves, StepsArm64, StepsOutArm64}
+use Rattle.pe_frame.proofs.Cited.{IsFirstCode, read_only}
 use Rattle.std.proofs.lemmas.Grind.{common_steps}
-use Rattle.std.proofs.lemmas.List.{length-drop, nil_from_length}
-use Rattle.std.proofs.lemmas.List.Elements.{All-drop}
 use Rattle.pe_unwind.proofs.Arm64Streams.{starts_some}
-use Rattle.pe_core.specs.Refusals.{Arm64Cut, ◌>>=◌}
-use Rattle.pe_core.specs.declared.error.Error.TheVariants.{Malformed}
 use Rattle.pe_core.specs.declared.error.Reason.TheVariants as reasons
-use Rattle.pe_unwind.specs.declared.arm64.codes.Arm64UnwindCode.{Arm64UnwindCode}
-use Rattle.pe_unwind.specs.declared.arm64.codes.Arm64UnwindCode.TheVariants.{End, Nop}
-use Rattle.pe_unwind.specs.Arm64Encoding.{encoding, StartsWithArm64Code, IsTruncatedArm64Code}
-use Rattle.pe_unwind.specs.Arm64Record.{Arm64InfoView}
-use Rattle.pe_unwind.specs.Arm64Words.{bits}
-use Rattle.pe_unwind.proofs.Arm64OneCode.{starts_once, cut_starts_none}
-use Rattle.pe_unwind.proofs.Arm64Whole.{code_or_cut}
-use Rattle.pe_frame.specs.declared.arm64.epilog.Arm64Epilog.{Arm64Epilog}
-use Rattle.pe_frame.specs.declared.arm64.registers.Arm64Registers.{Arm64Registers}
-use Rattle.pe_frame.specs.declared.error.FrameError.{FrameError}
-use Rattle.pe_frame.specs.declared.error.FrameError.TheVariants.{Codes}
-use Rattle.pe_frame.specs.Steps.{Then, OfCodes, error_kind, by_kind, registers_alone}
-use Rattle.pe_frame.specs.Arm64Undoing.{caller_by_codes}
-use Rattle.pe_frame.specs.Arm64Steps.{is_end, CodesThen, AreOver, AreTruncated, IsOfTruncated, HasArm64Codes, prolog_length, ran_arm64, epilog_start, left_in_epilog, epilog_after, LeavesIn, Leaves, StepsArm64, StepsOutArm64}
-use Rattle.pe_frame.specs.Arm64Reading.{IsFirstCode, read_only}
 use Rattle.pe_frame.proofs.OneStep.{same_then}
 
 -- no bytes are a truncated code, and start with none
@@ -42,8 +29,7 @@ has_more bytes c n (Err e) h k = (k.0, c ∷ k.1, more_codes AreTruncated bytes 
 
 -- the same as to whether one is truncated
 pub same_read : (c : Arm64UnwindCode) (more : Result (List Arm64UnwindCode) FrameError) → read_only (with_code c more) ≡ read_only more
-same_read c (Ok cs) = refl
-same_read c (Err e) = refl
+same_read c more = grind arith
 
 pub has_truncated : (bytes : List ℕ) (e : FrameError) → IsFirstCode bytes (Err e) → HasArm64Codes bytes (Err e)
 has_truncated bytes e h = (h.1, [], h.0)
@@ -51,7 +37,7 @@ has_truncated bytes e h = (h.1, [], h.0)
 -- no code starts where the codes are over
 over_none : (bytes : List ℕ) (c : Arm64UnwindCode) → AreOver bytes → StartsWithArm64Code bytes c → is_end c ≡ false → ⊥
 over_none bytes c (inl empty) h not = omega (arith, starts_some bytes c h, ap (λ (b : List ℕ). length b) empty)
-over_none bytes c (inr ends) h not = let same : c ≡ End = starts_once bytes c End h ends in cc
+over_none bytes c (inr ends) h not = cc (starts_once bytes c End h ends)
 
 pub over_codes : (bytes : List ℕ) (cs : List Arm64UnwindCode) → AreOver bytes → CodesThen AreOver bytes cs → cs ≡ []
 over_codes bytes [] h k = refl
@@ -68,11 +54,7 @@ pub record HasNextCode (bytes : List ℕ) (c : Arm64UnwindCode) (n : ℕ) (codes
   pub are : CodesThen AreOver (drop n bytes) rest
 
 next_of : (bytes : List ℕ) (c d : Arm64UnwindCode) (n : ℕ) (codes : List Arm64UnwindCode) → d ≡ c → n ≡ length (encoding c) → CodesThen AreOver (drop (length (encoding d)) bytes) codes → HasNextCode bytes c n (d ∷ codes)
-next_of bytes c d n codes same size are = record {
-  rest = codes;
-  is = ap (λ (x : Arm64UnwindCode). x ∷ codes) same;
-  are = subst (λ (k : ℕ). CodesThen AreOver (drop k bytes) codes) (ap (λ (x : Arm64UnwindCode). length (encoding x)) same ∙ sym size) are;
-}
+next_of bytes c d n codes same size are = grind arith
 
 -- the code that is read first is the first of the codes
 pub next_arm64 : (bytes : List ℕ) (c : Arm64UnwindCode) (n : ℕ) (codes : List Arm64UnwindCode) → IsFirstCode bytes (Ok (Some (c, n))) → CodesThen AreOver bytes codes → HasNextCode bytes c n codes
@@ -83,45 +65,25 @@ next_arm64 bytes c n (d ∷ codes) h k = next_of bytes c d n codes (starts_once 
 pub is_codes : (bytes : List ℕ) (cs ds : List Arm64UnwindCode) → CodesThen AreOver bytes cs → CodesThen AreOver bytes ds → cs ≡ ds
 is_codes bytes [] ds h k = sym (over_codes bytes ds h k)
 is_codes bytes (c ∷ cs) [] h k = over_codes bytes (c ∷ cs) k h
-is_codes bytes (c ∷ cs) (d ∷ ds) h k =
-    let same : c ≡ d = starts_once bytes c d h.0 k.0 in
-    let left : CodesThen AreOver (drop (length (encoding d)) bytes) cs = subst (λ (x : Arm64UnwindCode). CodesThen AreOver (drop (length (encoding x)) bytes) cs) same h.2 in
-    ap (λ (x : Arm64UnwindCode). x ∷ cs) same ∙ ap (λ (xs : List Arm64UnwindCode). d ∷ xs) (is_codes (drop (length (encoding d)) bytes) cs ds left k.2)
+is_codes bytes (c ∷ cs) (d ∷ ds) h k = grind (arith, starts_once, is_codes (drop (length (encoding d)) bytes) cs ds)
 
 not_truncated : (bytes : List ℕ) (cs ds : List Arm64UnwindCode) → CodesThen AreOver bytes cs → CodesThen AreTruncated bytes ds → ⊥
 not_truncated bytes cs [] h k = truncated_none bytes cs k h
 not_truncated bytes [] (d ∷ ds) h k = over_none bytes d h k.0 k.1
-not_truncated bytes (c ∷ cs) (d ∷ ds) h k =
-    let same : c ≡ d = starts_once bytes c d h.0 k.0 in
-    let left : CodesThen AreOver (drop (length (encoding d)) bytes) cs = subst (λ (x : Arm64UnwindCode). CodesThen AreOver (drop (length (encoding x)) bytes) cs) same h.2 in
-    not_truncated (drop (length (encoding d)) bytes) cs ds left k.2
-
-pub are_the_codes : (bytes : List ℕ) (cs : List Arm64UnwindCode) (x : Result (List Arm64UnwindCode) FrameError) → CodesThen AreOver bytes cs → HasArm64Codes bytes x → x ≡ Ok cs
-are_the_codes bytes cs (Ok ds) h k = ap Ok (is_codes bytes ds cs k h)
-are_the_codes bytes cs (Err e) h k = absurd (not_truncated bytes cs k.1 h k.2)
+not_truncated bytes (c ∷ cs) (d ∷ ds) h k = grind (arith, starts_once, not_truncated (drop (length (encoding d)) bytes) cs ds)
 
 truncated_kind : (e : FrameError) → IsOfTruncated e → error_kind e ≡ OfCodes Arm64Cut
-truncated_kind (Codes e) h = ap OfCodes h
-truncated_kind other h = absurd h
+truncated_kind e h = grind arith
 
 one_codes : (bytes : List ℕ) (x y : Result (List Arm64UnwindCode) FrameError) → HasArm64Codes bytes x → HasArm64Codes bytes y → by_kind x ≡ by_kind y
-one_codes bytes x (Ok cs) h k = ap by_kind (are_the_codes bytes cs x k h)
-one_codes bytes (Ok cs) (Err e) h k = absurd (not_truncated bytes cs k.1 h k.2)
-one_codes bytes (Err d) (Err e) h k = ap Err (truncated_kind d h.0 ∙ sym (truncated_kind e k.0))
+one_codes bytes x y h k = grind (arith, is_codes, not_truncated, truncated_kind)
 
 one_in : (i : Arm64InfoView) (place : ℕ) (cs : List Arm64UnwindCode) (e : Option Arm64Epilog) (x y : Result (List Arm64UnwindCode) FrameError) → LeavesIn i place cs e x → LeavesIn i place cs e y → by_kind x ≡ by_kind y
-one_in i place cs None x y h k = ap by_kind (h ∙ sym k)
-one_in i place cs (Some e) x y h k =
-    rw h.2 (rw k.2 (same_then h.0 k.0 (λ es. Ok (left_in_epilog place (epilog_start (bits i.header 0 18) e.start (prolog_length es)) es cs)) (one_codes (drop e.index i.codes) h.0 k.0 h.1 k.1)))
+one_in i place cs e x y h k = grind (arith, same_then, one_codes)
 
 one_by : (i : Arm64InfoView) (place : ℕ) (a b x y : Result (List Arm64UnwindCode) FrameError) → HasArm64Codes i.codes a → HasArm64Codes i.codes b →
     Then a (λ cs. LeavesIn i place cs (epilog_after i place cs)) x → Then b (λ cs. LeavesIn i place cs (epilog_after i place cs)) y → by_kind x ≡ by_kind y
-one_by i place (Ok cs) (Ok ds) x y h k hx ky =
-    let same : cs ≡ ds = is_codes i.codes cs ds h k in
-    one_in i place ds (epilog_after i place ds) x y (subst (λ (es : List Arm64UnwindCode). LeavesIn i place es (epilog_after i place es) x) same hx) ky
-one_by i place (Ok cs) (Err e) x y h k hx ky = absurd (not_truncated i.codes cs k.1 h k.2)
-one_by i place (Err d) (Ok ds) x y h k hx ky = absurd (not_truncated i.codes ds h.1 k h.2)
-one_by i place (Err d) (Err e) x y h k hx ky = rw hx (rw ky (ap Err (truncated_kind d h.0 ∙ sym (truncated_kind e k.0))))
+one_by i place a b x y h k hx ky = grind (arith, is_codes, one_in, not_truncated, truncated_kind)
 
 pub one_left : (i : Arm64InfoView) (place : ℕ) (x y : Result (List Arm64UnwindCode) FrameError) → Leaves i place x → Leaves i place y → by_kind x ≡ by_kind y
 one_left i place x y h k = one_by i place h.0 k.0 x y h.1 k.1 h.2 k.2
@@ -133,17 +95,11 @@ one_arm64_step m i place g x y h k = rw h.2 (rw k.2 (same_then h.0 k.0 (λ cs. r
 pub one_arm64_step_out : (m : ℕ → Option ℕ) (i : Arm64InfoView) (place : ℕ) (g : Arm64Registers) (x y : Result (Arm64Registers × Bool) FrameError) → StepsOutArm64 m i place g x → StepsOutArm64 m i place g y → by_kind x ≡ by_kind y
 one_arm64_step_out m i place g x y h k = rw h.2 (rw k.2 (same_then h.0 k.0 (λ cs. caller_by_codes m cs g) (one_left i place h.0 k.0 h.1 k.1)))
 
--- the registers alone of what a step returns
-alone_then : (x : Result (List Arm64UnwindCode) FrameError) (f : List Arm64UnwindCode → Result (Arm64Registers × Bool) FrameError) → registers_alone (x >>= f) ≡ (x >>= λ cs. registers_alone (f cs))
-alone_then (Ok cs) f = refl
-alone_then (Err e) f = refl
-
 pub registers_of_arm64_step : (m : ℕ → Option ℕ) (i : Arm64InfoView) (place : ℕ) (g : Arm64Registers) (left : Result (Arm64Registers × Bool) FrameError) → StepsOutArm64 m i place g left → StepsArm64 m i place g (registers_alone left)
-registers_of_arm64_step m i place g left h = (h.0, h.1, ap registers_alone h.2 ∙ alone_then h.0 (λ cs. caller_by_codes m cs g))
+registers_of_arm64_step m i place g left h = grind arith
 
 ok_by_kind : {A : Type 0} (x : Result A FrameError) (a : A) → by_kind x ≡ by_kind (Ok a) → x ≡ Ok a
-ok_by_kind (Ok b) a e = cc
-ok_by_kind (Err b) a e = cc
+ok_by_kind x a e = grind arith
 
 -- a step by a record that leaves these codes undoes them
 pub step_by_codes : (m : ℕ → Option ℕ) (i : Arm64InfoView) (cs : List Arm64UnwindCode) (place : ℕ) (g : Arm64Registers) (x : Result Arm64Registers FrameError) → Leaves i place (Ok cs) →
@@ -166,12 +122,8 @@ first_or_end : (bytes : List ℕ) (c : Arm64UnwindCode) (b : Bool) → StartsWit
 first_or_end bytes c false h e rest = with_first bytes c h e rest
 first_or_end bytes c true h e rest = (Ok [], inr (subst (λ (x : Arm64UnwindCode). StartsWithArm64Code bytes x) (ends c e) h))
 
-size_by : (bytes : List ℕ) (c : Arm64UnwindCode) (e : List ℕ) → StartsWithArm64Code bytes c → encoding c ≡ e → 1 ≤ length e
-size_by bytes c [] h is = absurd (cut_starts_none [] no_bytes c (record { legal = h.legal; spelled = rw is refl }))
-size_by bytes c (x ∷ e) h is = omega arith
-
 has_size : (bytes : List ℕ) (c : Arm64UnwindCode) → StartsWithArm64Code bytes c → 1 ≤ length (encoding c)
-has_size bytes c h = size_by bytes c (encoding c) h refl
+has_size bytes c h = grind (arith, cut_starts_none, no_bytes)
 
 codes_step : (bytes left : List ℕ) → bytes ≡ left → All (λ x. x < 256) bytes → ((n : ℕ) → 1 ≤ n → SomeCodes (drop n bytes)) → SomeCodes bytes
 codes_step bytes [] empty all more = (Ok [], inl empty)

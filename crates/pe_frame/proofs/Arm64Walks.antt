@@ -1,23 +1,10 @@
 -- There is one walk on ARM64, up to the numbers in a refusal.
-use Rattle.std.proofs.Common.{◌≡◌, ℕ, Bool, true, false, cond, List, [], ◌∷◌, Option, Some, None, Result, Ok, Err, ap, sym, ◌∙◌, subst}
-use Rattle.std.specs.List.{find}
-use Rattle.std.specs.Option.{option_map}
-use Rattle.pe_core.specs.Refusals.{Refusal}
-use Rattle.pe_unwind.specs.Arm64Record.{Arm64InfoView}
-use Rattle.pe_unwind.specs.Arm64Unwinding.{info_by}
-use Rattle.pe_unwind.specs.ExceptionTable.{ExceptionView}
-use Rattle.pe_unwind.specs.declared.arm64.function.Arm64RuntimeFunction.{Arm64RuntimeFunction}
-use Rattle.pe_lookup.specs.AddressRanges.{has_address}
-use Rattle.pe_frame.specs.Arm64Walks.{AreSortedModules, Calls, CallsBy, CallsByInfo, CallsFound, CallsIn, HasSortedTable, IsSortedModule, frame_after, lookup_address, place_of}
-use Rattle.pe_frame.specs.FrameWalks.{Process}
-use Rattle.pe_frame.specs.Modules.{map_of_module, module_at, module_base, module_size}
-use Rattle.pe_frame.specs.Steps.{ErrorKind, by_kind, error_kind}
-use Rattle.pe_frame.specs.Walks.{IsUnreadable, OfError, OfRecords, by_end_kind}
-use Rattle.pe_frame.specs.declared.arm64.registers.Arm64Registers.{Arm64Registers}
-use Rattle.pe_frame.specs.declared.arm64.walk.Arm64StackFrame.{Arm64StackFrame}
-use Rattle.pe_frame.specs.declared.error.FrameError.{FrameError}
-use Rattle.pe_frame.specs.declared.modules.Module.{Module}
-use Rattle.pe_frame.specs.declared.walk.WalkEnd.{WalkEnd}
+use Rattle.std.proofs.Common.{◌≡◌, ℕ, Bool, true, false, cond, List, ◌∷◌, Option, Some, None, Result, Ok, Err, ap, sym, ◌∙◌, subst, []}
+use Rattle.pe_frame.proofs.Cited.{find, option_map, Refusal, Arm64InfoView, info_by, ExceptionView, Arm64RuntimeFunction, has_address}
+use Rattle.pe_frame.proofs.Cited.{Calls, CallsBy, CallsByInfo, CallsFound, CallsIn, lookup_address, place_of, Process, map_of_module}
+use Rattle.pe_frame.proofs.Cited.{module_at, module_base, module_size, ErrorKind, by_kind, error_kind, IsUnreadable, OfError, OfRecords}
+use Rattle.pe_frame.proofs.Cited.{by_end_kind, Arm64Registers, Arm64StackFrame, FrameError, Module, WalkEnd}
+use Rattle.pe_frame.specs.Arm64Walks.{AreSortedModules, HasSortedTable, IsSortedModule, frame_after}
 use Rattle.pe_frame.specs.declared.walk.WalkEnd.TheVariants as ends
 use Rattle.pe_frame.proofs.Arm64Streams.{one_arm64_step_out}
 

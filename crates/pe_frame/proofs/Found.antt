@@ -1,28 +1,15 @@
 -- The frames that a step of a walk finds, and where it comes to the bottom.
-use Rattle.std.proofs.Common.{◌++◌, ◌≡◌, ◌-◌, ◌⊎◌, inl, inr, ℕ, ◌==◌, ◌||◌, ◌&&◌, not, nat_lt, Bool, true, false, cond, List, Option, Some, None, Result, Ok, Err, refl, ap, sym, ◌∙◌, subst}
-use Rattle.std.proofs.lemmas.Bool.{eqb-true}
-use Rattle.std.specs.List.{AllByRecursion}
-use Rattle.std.specs.Option.{is_none, option_map, option_map_or, option_or}
-use Rattle.pe_core.proofs.Equality.{both}
-use Rattle.pe_core.specs.Refusals.{Refusal}
-use Rattle.pe_unwind.specs.ExceptionTable.{ExceptionView}
-use Rattle.pe_unwind.specs.UnwindRecord.{UnwindInfoView}
-use Rattle.pe_unwind.specs.declared.function_table.RuntimeFunction.{RuntimeFunction}
-use Rattle.pe_frame.specs.Jumps.{StepsInImage}
-use Rattle.pe_frame.specs.Modules.{is_after_call, is_after_call_in, is_after_call_of, is_code_of, is_code_return, is_code_return_of, is_code, is_executable, is_in_unknown, is_unknown, may_end_call, module_at, map_of_module}
-use Rattle.pe_frame.specs.Undoing.{popped, stack_pointer}
-use Rattle.pe_frame.specs.FrameWalks.{IsWalk, Process, starting_walk}
-use Rattle.pe_frame.specs.Walks.{Calls, CallsBy, CallsByPlan, CallsFound, CallsIn, after_leaf, by_records, by_words, caller_in_code, chained, code_of_frame, code_return, end_at_0, frame_after, frame_of, has_called, is_bottom, caller_of_leaf, leaf_frame, leaf_if, leaf_is_guess, is_leaf_return, leaf_without_image, lookup_address, lower_frame, caller_outside, found_outside, found_by_ranges, record_of, record_return, returned_by, returned_to, scanned, scanned_by, scanned_frame, top_frame, without_records, called_in_gap, caller_in_gap, scanned_in_gap}
-use Rattle.pe_frame.specs.declared.chain.FrameRecord.{FrameRecord}
-use Rattle.pe_frame.specs.declared.error.FrameError.{FrameError}
-use Rattle.pe_frame.specs.declared.modules.Module.{Module}
-use Rattle.pe_frame.specs.declared.registers.Registers.{Registers}
-use Rattle.pe_frame.specs.declared.scan.FoundCall.{FoundCall}
-use Rattle.pe_frame.specs.declared.walk.Gap.{Gap}
-use Rattle.pe_frame.specs.declared.walk.StackFrame.{StackFrame}
-use Rattle.pe_frame.specs.declared.walk.Way.{Way}
-use Rattle.pe_frame.specs.declared.walk.Way.TheVariants.{Top, Records, Leaf, Interrupt, Scanned, FramePointer}
-use Rattle.pe_frame.specs.declared.walk.WalkEnd.{WalkEnd}
+use Rattle.std.proofs.Common.{◌++◌, ◌≡◌, ◌-◌, ◌⊎◌, inl, ℕ, ◌||◌, ◌&&◌, not, nat_lt, Bool, true, false, cond, List, Option, Some, None, Result, Ok, Err, refl, ap, sym, subst, arith, rules}
+use Rattle.pe_frame.proofs.Cited.{eqb-true, AllByRecursion, is_none, option_map, option_map_or, option_or, both, Refusal, ExceptionView}
+use Rattle.pe_frame.proofs.Cited.{UnwindInfoView, RuntimeFunction, StepsInImage, is_after_call, is_after_call_of, is_code_of}
+use Rattle.pe_frame.proofs.Cited.{is_code_return, is_code_return_of, is_in_unknown, is_unknown, may_end_call, module_at, map_of_module}
+use Rattle.pe_frame.proofs.Cited.{popped, IsWalk, Process, starting_walk, CallsByPlan, after_leaf, by_records, by_words, chained}
+use Rattle.pe_frame.proofs.Cited.{code_of_frame, code_return, end_at_0, frame_after, frame_of, has_called, is_bottom, caller_of_leaf}
+use Rattle.pe_frame.proofs.Cited.{leaf_frame, leaf_if, leaf_is_guess, is_leaf_return, leaf_without_image, lower_frame, caller_outside}
+use Rattle.pe_frame.proofs.Cited.{found_outside, found_by_ranges, record_of, record_return, returned_by, scanned, scanned_by, top_frame}
+use Rattle.pe_frame.proofs.Cited.{without_records, called_in_gap, caller_in_gap, scanned_in_gap, FrameRecord, FrameError, Module, Registers}
+use Rattle.pe_frame.proofs.Cited.{Gap, StackFrame, Way, Records, Leaf, Interrupt, FramePointer, WalkEnd}
+use Rattle.pe_frame.specs.Walks.{Calls, CallsBy, CallsFound, CallsIn, caller_in_code, lookup_address}
 use Rattle.pe_frame.specs.declared.walk.WalkEnd.TheVariants as ends
 use Rattle.pe_frame.proofs.FrameWalks.{frames_keep, sure_frames}
 
@@ -32,8 +19,7 @@ abbrev IsMade : List Module → StackFrame → Type 0
 IsMade modules t = (way : Way) × (guess : Bool) × (u : Registers) × (t ≡ frame_of modules way guess u)
 
 says : (modules : List Module) (t : StackFrame) → IsMade modules t → t.has_called ≡ has_called modules t.way (t.registers).rip
-says modules t made =
-    subst (λ (f : StackFrame). f.has_called ≡ has_called modules f.way (f.registers).rip) (sym made.3) refl
+says modules t made = cc
 
 -- ---- a frame, and that before it
 
@@ -50,16 +36,7 @@ way_of : (modules : List Module) (t : StackFrame) (way : Way) (guess : Bool) (u 
 way_of modules t way guess u same = ap (λ (f : StackFrame). f.way) same
 
 next_of : (modules : List Module) (s t : StackFrame) (way : Way) (guess : Bool) (u : Registers) → t ≡ frame_of modules way guess u → ((way ≡ Records) ⊎ ((way ≡ Interrupt) ⊎ (by_words way ≡ true))) ⊎ (s.has_called ≡ false) → (by_words way ≡ true → guess ≡ true) → (s.is_guess ≡ true → guess ≡ true) → (by_records way ≡ true → guess ≡ s.is_guess) → IsNext modules s t
-next_of modules s t way guess u same led words follows keeps =
-    let at : t.way ≡ way = way_of modules t way guess u same in
-    let is : t.is_guess ≡ guess = ap (λ (f : StackFrame). f.is_guess) same in
-    record {
-      made = (way, guess, u, same);
-      led = subst (λ (w : Way). ((w ≡ Records) ⊎ ((w ≡ Interrupt) ⊎ (by_words w ≡ true))) ⊎ (s.has_called ≡ false)) (sym at) led;
-      words = λ by. is ∙ words (sym (ap by_words at) ∙ by);
-      follows = λ before. is ∙ follows before;
-      keeps = λ by. is ∙ keeps (sym (ap by_records at) ∙ by);
-    }
+next_of modules s t way guess u same led words follows keeps = grind (arith, way_of)
 
 -- ---- without records
 
@@ -68,12 +45,7 @@ abbrev IsByWords : List Module → StackFrame → Type 0
 IsByWords modules t = (way : Way) × (by_words way ≡ true) × (u : Registers) × (t ≡ frame_of modules way true u)
 
 pub not_both : (way : Way) → by_words way ≡ true → by_records way ≡ true → ⊥
-not_both Top words records = cc words
-not_both Records words records = cc words
-not_both Leaf words records = cc words
-not_both Interrupt words records = cc words
-not_both Scanned words records = cc records
-not_both FramePointer words records = cc records
+not_both way words records = grind arith
 
 -- by one, or in a leaf function: then it is a guess where that is one
 abbrev IsFound : List Module → Bool → StackFrame → Type 0
@@ -84,70 +56,50 @@ abbrev IsLed : List Module → Bool → StackFrame → Type 0
 IsLed modules guess t = IsByWords modules t ⊎ IsFound modules guess t
 
 next_by_words : (modules : List Module) (s t : StackFrame) → IsByWords modules t → IsNext modules s t
-next_by_words modules s t found =
-    next_of modules s t found.0 true found.2 found.3 (inl (inr (inr found.1))) (λ by. refl) (λ before. refl) (λ by. absurd (not_both found.0 found.1 by))
+next_by_words modules s t found = grind (arith, next_of, not_both)
 
 next_led : (modules : List Module) (guess : Bool) (s t : StackFrame) → (s.is_guess ≡ true → guess ≡ true) → s.has_called ≡ false → IsLed modules guess t → IsNext modules s t
-next_led modules guess s t given waits (inl found) = next_by_words modules s t found
-next_led modules guess s t given waits (inr found) =
-    next_of modules s t Leaf found.0 found.1 found.3 (inr waits) (λ by. absurd (cc by)) (λ before. found.2 (given before)) (λ by. absurd (cc by))
+next_led modules guess s t given waits h6 = grind (arith, next_by_words, next_of)
 
 pub or_true : (a b : Bool) → a ≡ true → (a || b) ≡ true
-or_true true b is = refl
-or_true false b is = absurd (cc is)
+or_true a b is = grind arith
 
 leaf_when : (modules : List Module) (guess other : Bool) (u : Registers) (t : StackFrame) (b : Bool) → cond b (Some (frame_of modules Leaf (guess || other) u)) None ≡ Some t → IsLed modules guess t
-leaf_when modules guess other u t true is =
-    let same : t ≡ frame_of modules Leaf (guess || other) u = cc is in inr (guess || other, u, or_true guess other, same)
-leaf_when modules guess other u t false is = absurd (cc is)
+leaf_when modules guess other u t b is = grind (arith, or_true)
 
 made_leaf : (modules : List Module) (guess : Bool) (test : ℕ → Bool) (p : Result Registers FrameError) (t : StackFrame) → leaf_if modules guess test p ≡ Some t → IsLed modules guess t
-made_leaf modules guess test (Ok u) t is = leaf_when modules guess (not (is_code_return modules u.rip)) u t (test u.rip) is
-made_leaf modules guess test (Err e) t is = absurd (cc is)
+made_leaf modules guess test p t is = grind (arith, leaf_when)
 
 made_frame : {X : Type 0} (modules : List Module) (frame : X → StackFrame) (o : Option X) (t : StackFrame) → ((x : X) → IsByWords modules (frame x)) → option_map frame o ≡ Some t → IsByWords modules t
 made_frame modules frame None t made is = absurd (cc is)
-made_frame modules frame (Some x) t made is =
-    let same : frame x ≡ t = cc is in subst (λ (f : StackFrame). IsByWords modules f) same (made x)
+made_frame modules frame (Some x) t made is = subst (λ (f : StackFrame). IsByWords modules f) (cc is) (made x)
 
 made_scan_by : (returns memory : ℕ → Option ℕ) (modules : List Module) (g : Registers) (t : StackFrame) → scanned_by returns memory modules g ≡ Some t → IsByWords modules t
-made_scan_by returns memory modules g t is =
-    made_frame modules (scanned_frame modules g) _ t (λ found. (Scanned, refl, returned_to g found, refl)) is
+made_scan_by returns memory modules g t is = grind (arith, made_frame)
 
 made_scan : (memory : ℕ → Option ℕ) (modules : List Module) (g : Registers) (t : StackFrame) → scanned memory modules g ≡ Some t → IsByWords modules t
 made_scan memory modules g t is = made_scan_by (code_return modules) memory modules g t is
 
 made_in_gap : (memory : ℕ → Option ℕ) (modules : List Module) (gap : Gap) (g : Registers) (t : StackFrame) → scanned_in_gap memory modules gap g ≡ Some t → IsByWords modules t
-made_in_gap memory modules gap g t is =
-    made_frame modules (λ (c : FoundCall). scanned_frame modules g (c.address, c.word)) _ t (λ c. (Scanned, refl, returned_to g (c.address, c.word), refl)) is
+made_in_gap memory modules gap g t is = grind (arith, made_frame)
 
 chain_if : (modules : List Module) (g : Registers) (o : Option FrameRecord) (t : StackFrame) (b : Bool) → cond b None (option_map (λ r. frame_of modules FramePointer true (returned_by g r)) o) ≡ Some t → IsByWords modules t
-chain_if modules g o t true is = absurd (cc is)
-chain_if modules g o t false is =
-    made_frame modules (λ r. frame_of modules FramePointer true (returned_by g r)) o t (λ r. (FramePointer, refl, returned_by g r, refl)) is
+chain_if modules g o t b is = grind (arith, made_frame)
 
 made_chain : (memory : ℕ → Option ℕ) (modules : List Module) (s t : StackFrame) → chained memory modules s ≡ Some t → IsByWords modules t
 made_chain memory modules s t is =
     chain_if modules s.registers (record_of memory modules s.registers) t (not s.has_called && is_leaf_return modules (popped memory s.registers)) is
 
-lower_if : {X : Type 0} (c : Bool) (a b t : StackFrame) → (Some a ≡ Some t → X) → (Some b ≡ Some t → X) → cond c (Some a) (Some b) ≡ Some t → X
-lower_if true a b t first second is = first is
-lower_if false a b t first second is = second is
-
 made_lower : {X : Type 0} (a b : Option StackFrame) (t : StackFrame) → (a ≡ Some t → X) → (b ≡ Some t → X) → lower_frame a b ≡ Some t → X
-made_lower None b t first second is = second is
-made_lower (Some a) None t first second is = first is
-made_lower (Some a) (Some b) t first second is =
-    lower_if (nat_lt (stack_pointer a.registers) (stack_pointer b.registers)) a b t first second is
+made_lower a b t first second is = grind (arith, nat_lt)
 
 -- by a call into the gap or a frame pointer
 made_by_words : (memory : ℕ → Option ℕ) (modules : List Module) (gap : Gap) (s t : StackFrame) → lower_frame (scanned_in_gap memory modules gap s.registers) (chained memory modules s) ≡ Some t → IsByWords modules t
 made_by_words memory modules gap s t is =
     made_lower (scanned_in_gap memory modules gap s.registers) (chained memory modules s) t (made_in_gap memory modules gap s.registers t) (made_chain memory modules s t) is
 
-made_or : {X : Type 0} (a b : Option StackFrame) (t : StackFrame) → (a ≡ Some t → X) → (b ≡ Some t → X) → option_or a b ≡ Some t → X
-made_or (Some f) b t first second is = first is
-made_or None b t first second is = second is
+pub made_or : {F X : Type 0} (a b : Option F) (t : F) → (a ≡ Some t → X) → (b ≡ Some t → X) → option_or a b ≡ Some t → X
+made_or a b t first second is = grind arith
 
 made_without : (memory : ℕ → Option ℕ) (modules : List Module) (guess : Bool) (g : Registers) (t : StackFrame) → without_records memory modules guess g ≡ Some t → IsLed modules guess t
 made_without memory modules guess g t is =
@@ -158,23 +110,17 @@ made_without memory modules guess g t is =
     (λ rest. made_or other scan t (made_leaf modules guess (may_end_call modules) p t) (λ by. inl (made_scan memory modules g t by)) rest)
     is
 
-made_found : {X : Type 0} (o : Option StackFrame) (rest : Result StackFrame WalkEnd) (t : StackFrame) → (o ≡ Some t → X) → (Ok t ≡ rest → X) → Ok t ≡ option_map_or Ok o rest → X
-made_found (Some f) rest t found other is = let same : Some f ≡ Some t = cc is in found same
-made_found None rest t found other is = other is
+pub made_found : {F X : Type 0} (o : Option F) (rest : Result F WalkEnd) (t : F) → (o ≡ Some t → X) → (Ok t ≡ rest → X) → Ok t ≡ option_map_or Ok o rest → X
+made_found o rest t found other is = grind arith
 
 jumped_if : (modules : List Module) (u : Registers) (t : StackFrame) (zero code : Bool) → Ok t ≡ cond zero (Err ends.Zero) (cond code (Ok (frame_of modules Leaf true u)) (Err ends.NoReturnAddress)) → t ≡ frame_of modules Leaf true u
-jumped_if modules u t true code is = absurd (cc is)
-jumped_if modules u t false true is = cc is
-jumped_if modules u t false false is = absurd (cc is)
+jumped_if modules u t zero code is = grind arith
 
 made_after : (modules : List Module) (guess : Bool) (p : Result Registers FrameError) (t : StackFrame) → Ok t ≡ after_leaf modules p → IsLed modules guess t
-made_after modules guess (Ok u) t is =
-    inr (true, u, (λ given. refl), jumped_if modules u t (u.rip == 0) (is_code modules u.rip) is)
-made_after modules guess (Err e) t is = absurd (cc is)
+made_after modules guess p t is = grind (arith, jumped_if)
 
-by_called : {X : Type 0} (b : Bool) (called waits answer : Result StackFrame WalkEnd) → answer ≡ cond b called waits → (answer ≡ called → X) → (b ≡ false → answer ≡ waits → X) → X
-by_called true called waits answer is first second = first is
-by_called false called waits answer is first second = second refl is
+pub by_called : {F X : Type 0} (b : Bool) (called waits answer : Result F WalkEnd) → answer ≡ cond b called waits → (answer ≡ called → X) → (b ≡ false → answer ≡ waits → X) → X
+by_called b called waits answer is first second = grind arith
 
 next_leaf : (memory : ℕ → Option ℕ) (modules : List Module) (guess : Bool) (s t : StackFrame) → (s.is_guess ≡ true → guess ≡ true) → Ok t ≡ caller_of_leaf memory modules guess s → IsNext modules s t
 next_leaf memory modules guess s t given is =
@@ -186,8 +132,7 @@ next_leaf memory modules guess s t given is =
     (λ waits at. next_led modules guess s t given waits (made_found found rest t (made_without memory modules guess s.registers t) (made_after modules guess (popped memory s.registers) t) at))
 
 made_if : {X : Type 0} (called : Bool) (leaf scan : Option StackFrame) (t : StackFrame) → option_or (cond called None leaf) scan ≡ Some t → (called ≡ false → leaf ≡ Some t → X) → (scan ≡ Some t → X) → X
-made_if true leaf scan t is first second = second is
-made_if false leaf scan t is first second = made_or leaf scan t (first refl) second is
+made_if called leaf scan t is first second = grind arith
 
 next_in_gap : (memory : ℕ → Option ℕ) (modules : List Module) (guess : Bool) (gap : Gap) (s t : StackFrame) → (s.is_guess ≡ true → guess ≡ true) → Ok t ≡ caller_in_gap memory modules guess gap s → IsNext modules s t
 next_in_gap memory modules guess gap s t given is =
@@ -206,8 +151,7 @@ made_by_ranges memory modules s t false is = absurd (cc is)
 
 outside_if : (memory : ℕ → Option ℕ) (modules : List Module) (s t : StackFrame) (b : Bool) → s.has_called ≡ b → cond b (scanned memory modules s.registers) (without_records memory modules true s.registers) ≡ Some t → IsNext modules s t
 outside_if memory modules s t true called is = next_by_words modules s t (made_scan memory modules s.registers t is)
-outside_if memory modules s t false waits is =
-    next_led modules true s t (λ before. refl) waits (made_without memory modules true s.registers t is)
+outside_if memory modules s t false waits is = search (rules, arith, next_led, made_without)
 
 next_outside : (memory : ℕ → Option ℕ) (modules : List Module) (s t : StackFrame) → Ok t ≡ caller_outside memory modules s → IsNext modules s t
 next_outside memory modules s t is =
@@ -228,15 +172,10 @@ next_without_table memory modules s t false is = next_in_code memory modules s t
 -- ---- by records
 
 records_if : (modules : List Module) (s t : StackFrame) (u : Registers) (b : Bool) → Ok t ≡ cond b (Err (end_at_0 s.is_guess)) (Ok (frame_of modules Records s.is_guess u)) → IsNext modules s t
-records_if modules s t u true is = absurd (cc is)
-records_if modules s t u false is =
-    let same : t ≡ frame_of modules Records s.is_guess u = cc is in
-    next_of modules s t Records s.is_guess u same (inl (inl refl)) (λ by. absurd (cc by)) (λ before. before) (λ by. refl)
+records_if modules s t u b is = grind (arith, next_of)
 
 next_after : (memory : ℕ → Option ℕ) (modules : List Module) (s t : StackFrame) (left : Result (Registers × Bool) FrameError) → Ok t ≡ frame_after memory modules s.is_guess left → IsNext modules s t
-next_after memory modules s t (Ok (u, true)) is =
-    let same : t ≡ frame_of modules Interrupt s.is_guess u = cc is in
-    next_of modules s t Interrupt s.is_guess u same (inl (inr (inl refl))) (λ by. absurd (cc by)) (λ before. before) (λ by. refl)
+next_after memory modules s t (Ok (u, true)) is = grind (arith, next_of)
 next_after memory modules s t (Ok (u, false)) is = records_if modules s t u (is_bottom memory modules u) is
 next_after memory modules s t (Err e) is = absurd (cc is)
 
@@ -264,8 +203,7 @@ pub says_whether : (p : Process) (s t : StackFrame) → Calls p s (Ok t) → t.h
 says_whether p s t h = says p.modules t (next p s t h).made
 
 after_call : (s t : StackFrame) → ((t.way ≡ Records) ⊎ ((t.way ≡ Interrupt) ⊎ (by_words t.way ≡ true))) ⊎ (s.has_called ≡ false) → s.has_called ≡ true → (t.way ≡ Records) ⊎ ((t.way ≡ Interrupt) ⊎ (by_words t.way ≡ true))
-after_call s t (inl led) called = led
-after_call s t (inr not) called = absurd (cc (sym called ∙ not))
+after_call s t h2 called = grind arith
 
 pub led_on : (p : Process) (s t : StackFrame) → Calls p s (Ok t) → s.has_called ≡ true → (t.way ≡ Records) ⊎ ((t.way ≡ Interrupt) ⊎ (by_words t.way ≡ true))
 led_on p s t h called = after_call s t (next p s t h).led called
@@ -286,50 +224,32 @@ records_are_sure p g most first rest end h all =
 -- ---- the caller of a leaf function whose call is in code
 
 pub or_false : (a b : Bool) → b ≡ true → (a || not b) ≡ a
-or_false true true is = refl
-or_false false true is = refl
-or_false a false is = absurd (cc is)
+or_false a b is = grind arith
 
 call_of_code : (o : Option Module) (a : ℕ) → is_code_return_of o a ≡ true → is_after_call_of o a ≡ true
-call_of_code None a is = is
-call_of_code (Some m) a is = (both (is_executable m.sections.now (a - m.base - 1)) (is_after_call_in m a) is).1
+call_of_code o a is = grind (arith, both)
 
 no_leaf : (modules : List Module) (t : StackFrame) → t.way ≡ Leaf → IsByWords modules t → ⊥
-no_leaf modules t leaf found =
-    let words : by_words Leaf ≡ true = ap by_words (sym leaf ∙ way_of modules t found.0 true found.2 found.3) ∙ found.1 in
-    cc words
+no_leaf modules t leaf found = grind (arith, way_of)
 
 sure_when : (modules : List Module) (guess : Bool) (u : Registers) (t : StackFrame) (b : Bool) → is_code_return modules (t.registers).rip ≡ true → cond b (Some (frame_of modules Leaf (guess || not (is_code_return modules u.rip)) u)) None ≡ Some t → t.is_guess ≡ guess
-sure_when modules guess u t true code is =
-    let same : t ≡ frame_of modules Leaf (guess || not (is_code_return modules u.rip)) u = cc is in
-    let here = subst (λ (g : Registers). is_code_return modules g.rip ≡ true) (ap (λ (f : StackFrame). f.registers) same) code in
-    ap (λ (f : StackFrame). f.is_guess) same ∙ or_false guess (is_code_return modules u.rip) here
-sure_when modules guess u t false code is = absurd (cc is)
+sure_when modules guess u t b code is = grind (arith, or_false)
 
 sure_leaf : (modules : List Module) (guess : Bool) (test : ℕ → Bool) (p : Result Registers FrameError) (t : StackFrame) → is_code_return modules (t.registers).rip ≡ true → leaf_if modules guess test p ≡ Some t → t.is_guess ≡ guess
-sure_leaf modules guess test (Ok u) t code is = sure_when modules guess u t (test u.rip) code is
-sure_leaf modules guess test (Err e) t code is = absurd (cc is)
+sure_leaf modules guess test p t code is = grind (arith, sure_when)
 
-no_call : (t : StackFrame) (b : Bool) → b ≡ true → cond b (Some t) None ≡ None → ⊥
-no_call t true call none = cc none
-no_call t false call none = cc call
+pub no_call : {F : Type 0} (t : F) (b : Bool) → b ≡ true → cond b (Some t) None ≡ None → ⊥
+no_call t b call none = grind arith
 
 -- what a leaf function returns to where no call ends is no return address into code
 sure_after : (modules : List Module) (guess : Bool) (p : Result Registers FrameError) (t : StackFrame) → is_code_return modules (t.registers).rip ≡ true → leaf_frame modules guess p ≡ None → Ok t ≡ after_leaf modules p → ⊥
-sure_after modules guess (Ok u) t code none is =
-    let same = jumped_if modules u t (u.rip == 0) (is_code modules u.rip) is in
-    let here = subst (λ (g : Registers). is_code_return modules g.rip ≡ true) (ap (λ (f : StackFrame). f.registers) same) code in
-    let call : is_after_call modules u.rip ≡ true = call_of_code (module_at modules (u.rip - 1)) u.rip here in
-    no_call (frame_of modules Leaf (guess || not (is_code_return modules u.rip)) u) (is_after_call modules u.rip) call none
-sure_after modules guess (Err e) t code none is = cc is
+sure_after modules guess p t code none is = search (rules, arith, jumped_if, call_of_code, no_call)
 
-or_none : (a b : Option StackFrame) → option_or a b ≡ None → a ≡ None
-or_none None b is = refl
-or_none (Some f) b is = absurd (cc is)
+pub or_none : {F : Type 0} (a b : Option F) → option_or a b ≡ None → a ≡ None
+or_none a b is = grind arith
 
-found_or : {X : Type 0} (o : Option StackFrame) (rest : Result StackFrame WalkEnd) (t : StackFrame) → (o ≡ Some t → X) → (o ≡ None → Ok t ≡ rest → X) → Ok t ≡ option_map_or Ok o rest → X
-found_or (Some f) rest t found other is = let same : Some f ≡ Some t = cc is in found same
-found_or None rest t found other is = other refl is
+pub found_or : {F X : Type 0} (o : Option F) (rest : Result F WalkEnd) (t : F) → (o ≡ Some t → X) → (o ≡ None → Ok t ≡ rest → X) → Ok t ≡ option_map_or Ok o rest → X
+found_or o rest t found other is = grind arith
 
 sure_without : (memory : ℕ → Option ℕ) (modules : List Module) (guess : Bool) (g : Registers) (t : StackFrame) → t.way ≡ Leaf → is_code_return modules (t.registers).rip ≡ true → without_records memory modules guess g ≡ Some t → t.is_guess ≡ guess
 sure_without memory modules guess g t leaf returns is =
@@ -359,26 +279,9 @@ sure_in_gap memory modules guess gap s t h leaf returns =
     h
 
 pub leaf_keeps : (memory : ℕ → Option ℕ) (modules : List Module) (m : Module) (e : ExceptionView) (s t : StackFrame) → CallsFound memory modules m e s None (Ok t) → t.way ≡ Leaf → is_code_of (Some m) (lookup_address s) ≡ true → is_code_return modules (t.registers).rip ≡ true → t.is_guess ≡ s.is_guess
-leaf_keeps memory modules m e s t h leaf code returns =
-    sure_in_gap memory modules (leaf_is_guess m s) h.0 s t h.2 leaf returns ∙ or_false s.is_guess (is_code_of (Some m) (lookup_address s)) code
+leaf_keeps memory modules m e s t h leaf code returns = grind (arith, sure_in_gap, or_false)
 
 -- ---- the caller of a leaf function whose image is not at hand
-
-no_return : (modules : List Module) (a : ℕ) (b : Bool) → is_code_return modules a ≡ b → is_after_call modules a ≡ false → b ≡ false
-no_return modules a true at none =
-    let call : is_after_call modules a ≡ true = call_of_code (module_at modules (a - 1)) a at in absurd (cc (sym call ∙ none))
-no_return modules a false at none = refl
-
-or_not : (a b : Bool) → b ≡ false → (a || not b) ≡ true
-or_not true b is = refl
-or_not false true is = absurd (cc is)
-or_not false false is = refl
-
-without_first : (memory : ℕ → Option ℕ) (modules : List Module) (guess : Bool) (g u : Registers) → popped memory g ≡ Ok u → is_after_call modules u.rip ≡ false → may_end_call modules u.rip ≡ true → without_records memory modules guess g ≡ Some (frame_of modules Leaf true u)
-without_first memory modules guess g u pops none may =
-    let sure : (guess || not (is_code_return modules u.rip)) ≡ true =
-    or_not guess (is_code_return modules u.rip) (no_return modules u.rip (is_code_return modules u.rip) refl none) in
-    rw (pops, none, may, sure) refl
 
 -- ---- a frame pointer
 
@@ -387,79 +290,50 @@ pub no_chain : (memory : ℕ → Option ℕ) (modules : List Module) (guess : Bo
 no_chain memory modules guess s leaf = rw leaf refl
 
 chain_when : (memory : ℕ → Option ℕ) (modules : List Module) (guess : Bool) (s : StackFrame) (b : Bool) (o : Option FrameRecord) → o ≡ None → option_map_or Ok (cond b None (option_map (λ r. frame_of modules FramePointer true (returned_by s.registers r)) o)) (caller_of_leaf memory modules guess s) ≡ caller_of_leaf memory modules guess s
-chain_when memory modules guess s true o none = refl
-chain_when memory modules guess s false o none = rw none refl
+chain_when memory modules guess s b o none = grind arith
 
 -- without a record the caller is as without a frame pointer
 pub no_record : (memory : ℕ → Option ℕ) (modules : List Module) (guess : Bool) (s : StackFrame) → record_of memory modules s.registers ≡ None → caller_in_code memory modules guess s ≡ caller_of_leaf memory modules guess s
-no_record memory modules guess s none =
-    chain_when memory modules guess s (not s.has_called && is_leaf_return modules (popped memory s.registers)) (record_of memory modules s.registers) none
+no_record memory modules guess s none = grind (arith, chain_when)
 
 pub chain_followed : (memory : ℕ → Option ℕ) (modules : List Module) (guess : Bool) (s : StackFrame) (r : FrameRecord) → (not s.has_called && is_leaf_return modules (popped memory s.registers)) ≡ false → record_of memory modules s.registers ≡ Some r → caller_in_code memory modules guess s ≡ Ok (frame_of modules FramePointer true (returned_by s.registers r))
 chain_followed memory modules guess s r free found = rw (free, found) refl
 
 pub leaf_first : (memory : ℕ → Option ℕ) (modules : List Module) (guess : Bool) (s : StackFrame) (u : Registers) → s.has_called ≡ false → popped memory s.registers ≡ Ok u → is_after_call modules u.rip ≡ false → may_end_call modules u.rip ≡ true → caller_in_code memory modules guess s ≡ Ok (frame_of modules Leaf true u)
-leaf_first memory modules guess s u waits pops none may =
-    let returns : is_leaf_return modules (popped memory s.registers) ≡ true = rw (pops, none, may) refl in
-    let found : caller_of_leaf memory modules guess s ≡ Ok (frame_of modules Leaf true u) = rw (waits, without_first memory modules guess s.registers u pops none may) refl in
-    no_chain memory modules guess s (rw (waits, returns) refl) ∙ found
+leaf_first memory modules guess s u waits pops none may = grind (arith, call_of_code, no_chain)
 
 pub outside_first : (memory : ℕ → Option ℕ) (modules : List Module) (s : StackFrame) (u : Registers) → s.has_called ≡ false → popped memory s.registers ≡ Ok u → is_after_call modules u.rip ≡ false → may_end_call modules u.rip ≡ true → caller_outside memory modules s ≡ Ok (frame_of modules Leaf true u)
-outside_first memory modules s u waits pops none may =
-    rw (waits, without_first memory modules true s.registers u pops none may) refl
+outside_first memory modules s u waits pops none may = cc
 
 -- ---- the bottom
 
 pub none_of : {X : Type 0} (o : Option X) → is_none o ≡ true → o ≡ None
-none_of None is = refl
-none_of (Some x) is = absurd (cc is)
+none_of o is = grind arith
 
-pub sure_if : (guess : Bool) → ◌≡◌ {A = Result StackFrame WalkEnd} (Err ends.Bottom) (Err (end_at_0 guess)) → guess ≡ false
-sure_if true is = absurd (cc is)
-sure_if false is = refl
+pub sure_if : {F : Type 0} (guess : Bool) → ◌≡◌ {A = Result F WalkEnd} (Err ends.Bottom) (Err (end_at_0 guess)) → guess ≡ false
+sure_if guess is = grind arith
 
 zero_if : (memory : ℕ → Option ℕ) (modules : List Module) (guess : Bool) (u : Registers) (b : Bool) → is_bottom memory modules u ≡ b → Err ends.Bottom ≡ cond b (Err (end_at_0 guess)) (Ok (frame_of modules Records guess u)) → (u.rip ≡ 0) × (without_records memory modules true u ≡ None) × (guess ≡ false)
-zero_if memory modules guess u true at is =
-    let parts = both (u.rip == 0) (is_none (without_records memory modules true u)) at in
-    (eqb-true u.rip 0 parts.0, none_of (without_records memory modules true u) parts.1, sure_if guess is)
-zero_if memory modules guess u false at is = absurd (cc is)
+zero_if memory modules guess u b at is = grind (arith, both, eqb-true, none_of, sure_if)
 
 abbrev LeavesFor0 : (ℕ → Option ℕ) → List Module → Bool → (Result (Registers × Bool) FrameError → Type 0) → Type 0
 LeavesFor0 memory modules guess Steps =
     (u : Registers) × Steps (Ok (u, false)) × (u.rip ≡ 0) × (without_records memory modules true u ≡ None) × (guess ≡ false)
 
 left_for_0 : (memory : ℕ → Option ℕ) (modules : List Module) (guess : Bool) (Steps : Result (Registers × Bool) FrameError → Type 0) (left : Result (Registers × Bool) FrameError) → Steps left → Err ends.Bottom ≡ frame_after memory modules guess left → LeavesFor0 memory modules guess Steps
-left_for_0 memory modules guess Steps (Ok (u, true)) steps is = absurd (cc is)
-left_for_0 memory modules guess Steps (Ok (u, false)) steps is =
-    let zero = zero_if memory modules guess u (is_bottom memory modules u) refl is in
-    (u, steps, zero.0, zero.1, zero.2)
-left_for_0 memory modules guess Steps (Err e) steps is = absurd (cc is)
+left_for_0 memory modules guess Steps left steps is = grind (arith, zero_if)
 
 pub records_at_bottom : (memory : ℕ → Option ℕ) (modules : List Module) (m : Module) (e : ExceptionView) (f : RuntimeFunction) (s : StackFrame) (plan : List UnwindInfoView) → CallsByPlan memory modules m e f s (Ok (Some plan)) (Err ends.Bottom) → LeavesFor0 memory modules s.is_guess (StepsInImage e (map_of_module m e) memory plan f.begin_address ((s.registers).rip - m.base) (code_of_frame m e f.end_address s) s.registers)
-records_at_bottom memory modules m e f s plan h =
-    left_for_0 memory modules s.is_guess (StepsInImage e (map_of_module m e) memory plan f.begin_address ((s.registers).rip - m.base) (code_of_frame m e f.end_address s) s.registers) h.0 h.1 h.2
+records_at_bottom memory modules m e f s plan h = search (rules, arith, left_for_0)
 
-no_bottom : (o : Option StackFrame) (rest : Result StackFrame WalkEnd) → (Err ends.Bottom ≡ rest → ⊥) → Err ends.Bottom ≡ option_map_or Ok o rest → ⊥
-no_bottom None rest other is = other is
-no_bottom (Some f) rest other is = cc is
+pub no_bottom : {F : Type 0} (o : Option F) (rest : Result F WalkEnd) → (Err ends.Bottom ≡ rest → ⊥) → Err ends.Bottom ≡ option_map_or Ok o rest → ⊥
+no_bottom o rest other is = grind arith
 
 no_end_at : (modules : List Module) (u : Registers) (zero code : Bool) → Err ends.Bottom ≡ cond zero (Err ends.Zero) (cond code (Ok (frame_of modules Leaf true u)) (Err ends.NoReturnAddress)) → ⊥
-no_end_at modules u true code is = cc is
-no_end_at modules u false true is = cc is
-no_end_at modules u false false is = cc is
-
-no_end_of_leaf : (modules : List Module) (p : Result Registers FrameError) → Err ends.Bottom ≡ after_leaf modules p → ⊥
-no_end_of_leaf modules (Ok u) is = no_end_at modules u (u.rip == 0) (is_code modules u.rip) is
-no_end_of_leaf modules (Err e) is = cc is
+no_end_at modules u zero code is = grind arith
 
 leaf_at_bottom : (memory : ℕ → Option ℕ) (modules : List Module) (guess : Bool) (s : StackFrame) → caller_of_leaf memory modules guess s ≡ Err ends.Bottom → ⊥
-leaf_at_bottom memory modules guess s is =
-    let found = without_records memory modules guess s.registers in
-    let rest = after_leaf modules (popped memory s.registers) in
-    let by_scan = scanned memory modules s.registers in
-    by_called s.has_called (option_map_or Ok by_scan (Err ends.NoFunction)) (option_map_or Ok found rest) (Err ends.Bottom) (sym is)
-    (λ at. no_bottom by_scan (Err ends.NoFunction) (λ e. cc e) at)
-    (λ waits at. no_bottom found rest (no_end_of_leaf modules (popped memory s.registers)) at)
+leaf_at_bottom memory modules guess s is = grind (arith, no_bottom, no_end_at)
 
 pub code_at_bottom : (memory : ℕ → Option ℕ) (modules : List Module) (guess : Bool) (s : StackFrame) → caller_in_code memory modules guess s ≡ Err ends.Bottom → ⊥
 code_at_bottom memory modules guess s is =
@@ -470,31 +344,21 @@ gap_at_bottom memory modules guess gap s is =
     no_bottom (called_in_gap memory modules guess gap s) (caller_of_leaf memory modules guess s) (λ at. leaf_at_bottom memory modules guess s (sym at)) (sym is)
 
 pub outside_at_bottom : (memory : ℕ → Option ℕ) (modules : List Module) (s : StackFrame) → caller_outside memory modules s ≡ Err ends.Bottom → ⊥
-outside_at_bottom memory modules s is =
-    no_bottom (option_or (found_outside memory modules s) (found_by_ranges memory modules s)) (Err ends.NoModule) (λ e. cc e) (sym is)
+outside_at_bottom memory modules s is = grind (arith, no_bottom)
 
 no_table_at_bottom : (memory : ℕ → Option ℕ) (modules : List Module) (s : StackFrame) (b : Bool) → Err ends.Bottom ≡ cond b (caller_outside memory modules s) (caller_in_code memory modules true s) → ⊥
-no_table_at_bottom memory modules s true is = outside_at_bottom memory modules s (sym is)
-no_table_at_bottom memory modules s false is = code_at_bottom memory modules true s (sym is)
+no_table_at_bottom memory modules s b is = grind (arith, outside_at_bottom, code_at_bottom)
 
 -- ---- the bottom of a whole walk
 
-sure_by_plan : (memory : ℕ → Option ℕ) (modules : List Module) (m : Module) (e : ExceptionView) (f : RuntimeFunction) (s : StackFrame) (plan : Result (Option (List UnwindInfoView)) Refusal) → CallsByPlan memory modules m e f s plan (Err ends.Bottom) → s.is_guess ≡ false
-sure_by_plan memory modules m e f s (Err r) h = absurd h
-sure_by_plan memory modules m e f s (Ok None) h = absurd (cc h)
-sure_by_plan memory modules m e f s (Ok (Some plan)) h = (records_at_bottom memory modules m e f s plan h).4
-
 sure_found : (memory : ℕ → Option ℕ) (modules : List Module) (m : Module) (e : ExceptionView) (s : StackFrame) (found : Option RuntimeFunction) → CallsFound memory modules m e s found (Err ends.Bottom) → s.is_guess ≡ false
-sure_found memory modules m e s None h = absurd (gap_at_bottom memory modules (leaf_is_guess m s) h.0 s (sym h.2))
-sure_found memory modules m e s (Some f) h = sure_by_plan memory modules m e f s h.0 h.2
+sure_found memory modules m e s found h = search (rules, arith, gap_at_bottom, records_at_bottom)
 
 sure_by : (memory : ℕ → Option ℕ) (modules : List Module) (m : Module) (s : StackFrame) (o : Option ExceptionView) → CallsBy memory modules m s o (Err ends.Bottom) → s.is_guess ≡ false
-sure_by memory modules m s None h = absurd (no_table_at_bottom memory modules s (is_unknown m) h)
-sure_by memory modules m s (Some e) h = sure_found memory modules m e s h.0 h.2
+sure_by memory modules m s o h = grind (arith, no_table_at_bottom, sure_found)
 
 sure_in : (memory : ℕ → Option ℕ) (modules : List Module) (s : StackFrame) (o : Option Module) → CallsIn memory modules s o (Err ends.Bottom) → s.is_guess ≡ false
-sure_in memory modules s None h = absurd (outside_at_bottom memory modules s (sym h))
-sure_in memory modules s (Some m) h = sure_by memory modules m s (option_map (λ e. e.now) m.exceptions) h
+sure_in memory modules s o h = grind (arith, outside_at_bottom, sure_by)
 
 sure : (p : Process) (s : StackFrame) → Calls p s (Err ends.Bottom) → s.is_guess ≡ false
 sure p s h = sure_in p.memory p.modules s (module_at p.modules (lookup_address s)) h

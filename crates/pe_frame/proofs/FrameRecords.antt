@@ -1,11 +1,7 @@
 -- Records of frames: what a frame pointer leads to.
 use Rattle.std.proofs.Common.{◌≡◌, ◌⊎◌, inl, inr, ℕ, ◌+◌, ◌%◌, ◌<◌, ◌≤◌, ◌^◌, ◌==◌, ◌&&◌, ◌||◌, nat_le, nat_lt, Bool, true, false, cond, Option, Some, None, refl, subst, arith}
-use Rattle.std.proofs.lemmas.Bool.{eqb-true}
-use Rattle.std.proofs.lemmas.Bool.Decides.{nat_tests}
-use Rattle.std.specs.Option.{option_and_then, option_map}
-use Rattle.pe_core.proofs.Equality.{both}
-use Rattle.pe_frame.specs.FrameRecords.{IsFrameRecord, caller_of_record, frame_record, is_higher, may_lead, record_with}
-use Rattle.pe_frame.specs.declared.chain.FrameRecord.{FrameRecord}
+use Rattle.pe_frame.proofs.Cited.{eqb-true, nat_tests, option_and_then, option_map, both, IsFrameRecord, caller_of_record, frame_record}
+use Rattle.pe_frame.proofs.Cited.{is_higher, may_lead, record_with, FrameRecord}
 
 -- ---- tests
 

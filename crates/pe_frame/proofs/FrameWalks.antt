@@ -1,10 +1,7 @@
 -- Whole walks over the frames of any machine: what all calls of `next` return, that there is a walk, and only one.
-use Rattle.std.proofs.Common.{◌≡◌, ℕ, zero, suc, ◌≤◌, Bool, true, false, List, [], ◌∷◌, ◌++◌, length, Option, Some, None, Result, Ok, Err, refl, ap, sym, ◌∙◌, subst, arith}
-use Rattle.std.specs.Iterator.{Yields}
-use Rattle.std.specs.List.{AllByRecursion}
-use Rattle.pe_frame.specs.FrameWalks.{FrameWalk, Follows, FollowsBy, Advances, AdvancesBy, IsWalk, IsWalkBy, returned_frame, walk_after}
-use Rattle.pe_frame.specs.Walks.{by_end_kind, end_kind}
-use Rattle.pe_frame.specs.declared.walk.WalkEnd.{WalkEnd}
+use Rattle.std.proofs.Common.{◌≡◌, ℕ, zero, suc, ◌≤◌, Bool, true, false, List, ◌∷◌, ◌++◌, length, Option, Some, None, Result, Ok, Err, refl, ap, sym, ◌∙◌, subst, arith, []}
+use Rattle.pe_frame.proofs.Cited.{Yields, AllByRecursion, FrameWalk, Follows, FollowsBy, Advances, AdvancesBy, IsWalk, IsWalkBy}
+use Rattle.pe_frame.proofs.Cited.{returned_frame, walk_after, by_end_kind, end_kind, WalkEnd}
 use Rattle.pe_frame.specs.declared.walk.WalkEnd.TheVariants as ends
 
 module _ {P F : Type 0} (Calls : P → F → Result F WalkEnd → Type 0) where

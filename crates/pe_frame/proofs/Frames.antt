@@ -1,18 +1,11 @@
 -- Frames of a running program are undone.
-use Rattle.std.proofs.Common.{◌≡◌, ◌≢◌, ℕ, ◌+◌, ◌^◌, ◌<◌, ◌≤◌, ◌⊎◌, inl, inr, Bool, true, false, ltb, leb, IsSome, List, [], ◌∷◌, length, map, get_or, set, Option, Some, None, Result, Ok, Err, refl, ap, sym, ◌∙◌, subst, arith}
-use Rattle.std.specs.List.{AllByRecursion}
-use Rattle.std.proofs.lemmas.Bool.{lt-ltb}
-use Rattle.std.proofs.lemmas.Bool.Decides.{nat_tests}
-use Rattle.std.proofs.lemmas.List.{get_or-set_other}
-use Rattle.pe_unwind.specs.declared.unwind_code.UnwindCode.{UnwindCode}
-use Rattle.pe_unwind.specs.declared.unwind_code.UnwindOperation.{UnwindOperation}
-use Rattle.pe_unwind.specs.UnwindRecord.{UnwindInfoView}
-use Rattle.pe_frame.specs.declared.error.FrameError.{FrameError}
-use Rattle.pe_frame.specs.declared.registers.Registers.{Registers}
-use Rattle.pe_frame.specs.Undoing.{FrameRegister, ran, any_sets_frame_register, is_interrupted, stack_pointer, entered, put_register, put_rip}
-use Rattle.pe_frame.specs.Steps.{known_codes, frame_register_in, limit_of, Enters, UndoesRecords, Steps, returned, by_kind}
-use Rattle.pe_frame.specs.Machine.{machine_stack_pointer, loaded, run, chosen, saves, saves_xmm, KeepsStackPointer}
-use Rattle.pe_frame.specs.Frames.{Part, infos, left, IsRecord, StopsIn, SavesOrKeeps, registers_of, AreFrames, restored, restored_xmm, Leaves, IsCaller}
+use Rattle.std.proofs.Common.{◌≡◌, ◌≢◌, ℕ, ◌+◌, ◌^◌, ◌<◌, ◌≤◌, Bool, true, false, leb, IsSome, List, ◌∷◌, length, map, get_or, Option, Some, None, Result, Ok, refl, ap, sym, ◌∙◌, subst, arith, rules, []}
+use Rattle.pe_frame.proofs.Cited.{AllByRecursion, lt-ltb, nat_tests, get_or-set_other, UnwindCode, UnwindInfoView, FrameError, Registers}
+use Rattle.pe_frame.proofs.Cited.{ran, any_sets_frame_register, is_interrupted, stack_pointer, entered, put_register, put_rip, known_codes}
+use Rattle.pe_frame.proofs.Cited.{frame_register_in, limit_of, Enters, UndoesRecords, Steps, returned, by_kind, machine_stack_pointer}
+use Rattle.pe_frame.proofs.Cited.{loaded, run, chosen, saves, saves_xmm, Part, infos, left, IsRecord, StopsIn, SavesOrKeeps, registers_of}
+use Rattle.pe_frame.proofs.Cited.{AreFrames, restored, restored_xmm, IsCaller}
+use Rattle.pe_frame.specs.Frames.{Leaves}
 use Rattle.pe_frame.proofs.Begun.{begun}
 use Rattle.pe_frame.proofs.OneStep.{one_step}
 use Rattle.pe_frame.proofs.Runs.{sinks, pointer_set}
@@ -61,43 +54,21 @@ pub record Agrees (parts : List Part) (w v : Registers) : Type 0 where
   pub stack : stack_pointer v ≡ stack_pointer w
   pub frames : AllByRecursion (λ o. IsSome (left None o).frame_base → get_or v.general (o.info.frame_register).0 0 ≡ get_or w.general (o.info.frame_register).0 0) parts
 
-some_of : (x : Option ℕ) → IsSome x → (b : ℕ) × (x ≡ Some b)
-some_of None h = cc
-some_of (Some b) h = (b, refl)
-
-keeps_by : (f : FrameRegister) (codes : List UnwindOperation) (frame : Option ℕ) (there : List ℕ) (w v : Registers) → stack_pointer v ≡ stack_pointer w
-    → (IsSome frame → get_or v.general f.register 0 ≡ get_or w.general f.register 0) → KeepsStackPointer f codes frame there w → KeepsStackPointer f codes frame there v
-keeps_by f codes None there w v at same k = at ∙ k
-keeps_by f codes (Some b) there w v at same k =
-    (let le : stack_pointer w ≤ get_or there 4 0 = k.0 in omega arith, λ late. at ∙ k.1 late, same refl ∙ k.2)
-
 stops_also : (c : Bool) (q : Part) (m : ℕ → Option ℕ) (w v : Registers) → length v.general ≡ 16 → length v.xmm ≡ 16 → stack_pointer v ≡ stack_pointer w →
     (IsSome (left None q).frame_base → get_or v.general (q.info.frame_register).0 0 ≡ get_or w.general (q.info.frame_register).0 0) → StopsIn c None q m w → StopsIn c None q m v
-stops_also c q m w v count xmm_count stack same stops = record {
-  order = stops.order;
-  body = record {
-    count = count;
-    xmm_count = xmm_count;
-    frame = keeps_by (frame_register_in q.info) (ran None q.codes) (left None q).frame_base (left None q).general w v stack same stops.body.frame;
-    memory = stops.body.memory;
-  };
-}
+stops_also c q m w v count xmm_count stack same stops = grind (arith, get_or)
 
 keeps_also : (q : Part) (parts : List Part) (w v : Registers) →
     AllByRecursion (λ o. IsSome (left None o).frame_base → get_or v.general (o.info.frame_register).0 0 ≡ get_or w.general (o.info.frame_register).0 0) parts →
     AllByRecursion (λ o. IsSome (left None o).frame_base → SavesOrKeeps None q w (o.info.frame_register).0) parts →
     AllByRecursion (λ o. IsSome (left None o).frame_base → SavesOrKeeps None q v (o.info.frame_register).0) parts
 keeps_also q [] w v same keeps = tt
-keeps_also q (o ∷ parts) w v same keeps = (
-  λ framed. elim (keeps.0 framed) [ inl saved ↦ inl saved | inr kept ↦ inr (same.0 framed ∙ kept) ],
-  keeps_also q parts w v same.1 keeps.1,
-)
+keeps_also q (o ∷ parts) w v same keeps = grind (arith, keeps_also q parts w v)
 
 -- other registers that agree are those of the same frames
 pub frames_also : (m : ℕ → Option ℕ) (parts : List Part) (w v : Registers) → Agrees parts w v → AreFrames m parts None w → AreFrames m parts None v
 frames_also m [] w v agrees frames = absurd frames
-frames_also m (q ∷ []) w v agrees frames =
-    (frames.0, frames.1, stops_also true q m w v agrees.count agrees.xmm_count agrees.stack agrees.frames.0 frames.2)
+frames_also m (q ∷ []) w v agrees frames = grind (arith, stops_also)
 frames_also m (q ∷ o ∷ parts) w v agrees frames = (
   frames.0,
   frames.1,
@@ -108,29 +79,19 @@ frames_also m (q ∷ o ∷ parts) w v agrees frames = (
 
 -- a frame register that is set is not the stack pointer
 set_other : (c : Bool) (o : Part) → IsRecord c o → IsSome (left None o).frame_base → (o.info.frame_register).0 ≢ 4
-set_other c o record_is framed =
-    let some = some_of (left None o).frame_base framed in
-    undone.set_other c (frame_register_in o.info) (ran None o.codes) o.entry some.0 record_is.prolog some.1
-
-chosen_kept : (b : Bool) (old now : ℕ) → (b ≡ true) ⊎ (now ≡ old) → chosen b old now ≡ old
-chosen_kept true old now h = refl
-chosen_kept false old now (inl h) = cc
-chosen_kept false old now (inr h) = h
+set_other c o record_is framed = grind (arith, undone.set_other)
 
 frame_agrees : (c d : Bool) (limit : Option ℕ) (p o : Part) (m : ℕ → Option ℕ) (g : Registers) (e : Entry c limit p m g) → IsRecord d o →
     (IsSome (left None o).frame_base → SavesOrKeeps limit p g (o.info.frame_register).0) →
     IsSome (left None o).frame_base → get_or e.entry.general (o.info.frame_register).0 0 ≡ get_or p.entry.general (o.info.frame_register).0 0
-frame_agrees c d limit p o m g e record_is keeps framed =
-    let r = (o.info.frame_register).0 in
-    e.registers r (set_other d o record_is framed) ∙ chosen_kept (saves (ran limit p.codes) r) (get_or p.entry.general r 0) (get_or g.general r 0) (keeps framed)
+frame_agrees c d limit p o m g e record_is keeps framed = grind (arith, set_other, get_or)
 
 frames_agree : (c : Bool) (limit : Option ℕ) (p : Part) (m k : ℕ → Option ℕ) (g w : Registers) (e : Entry c limit p m g) (parts : List Part) → AreFrames k parts None w →
     AllByRecursion (λ o. IsSome (left None o).frame_base → SavesOrKeeps limit p g (o.info.frame_register).0) parts →
     AllByRecursion (λ o. IsSome (left None o).frame_base → get_or e.entry.general (o.info.frame_register).0 0 ≡ get_or p.entry.general (o.info.frame_register).0 0) parts
 frames_agree c limit p m k g w e [] frames keeps = tt
 frames_agree c limit p m k g w e (o ∷ []) frames keeps = (frame_agrees c true limit p o m g e frames.0 keeps.0, tt)
-frames_agree c limit p m k g w e (o ∷ q ∷ parts) frames keeps =
-    (frame_agrees c false limit p o m g e frames.0 keeps.0, frames_agree c limit p m k g (registers_of o.entry) e (q ∷ parts) frames.4 keeps.1)
+frames_agree c limit p m k g w e (o ∷ q ∷ parts) frames keeps = search (rules, arith, frame_agrees, frames_agree c limit p m k g (registers_of o.entry) e (q ∷ parts) frames.4 keeps.1)
 
 -- the registers where the function was entered
 abbrev pub LeftAt : List Part → Option ℕ → Bool → Registers → Type 0
@@ -187,25 +148,14 @@ abbrev pub root_of : Part → List Part → Part
 root_of p [] = p
 root_of p (q ∷ parts) = root_of q parts
 
-not_above_by : (f : FrameRegister) (codes : List UnwindOperation) (frame : Option ℕ) (there : List ℕ) (g : Registers) → KeepsStackPointer f codes frame there g → stack_pointer g ≤ get_or there 4 0
-not_above_by f codes None there g k = omega arith
-not_above_by f codes (Some b) there g k = k.0
-
 -- the stack pointer is not above where a part was entered
 not_above : (c : Bool) (limit : Option ℕ) (p : Part) (m : ℕ → Option ℕ) (g : Registers) → IsRecord c p → StopsIn c limit p m g → stack_pointer g ≤ machine_stack_pointer p.entry
-not_above c limit p m g record_is stops =
-    let f = frame_register_in p.info in
-    let codes = ran limit p.codes in
-    let low = sinks c f codes p.entry (begun c f p.codes p.entry limit stops.order record_is.prolog) in
-    let here = not_above_by f codes (run f codes p.entry).frame_base (run f codes p.entry).general g stops.body.frame in
-    omega arith
+not_above c limit p m g record_is stops = grind (arith, sinks, begun)
 
 pub root_above : (m : ℕ → Option ℕ) (p : Part) (parts : List Part) (limit : Option ℕ) (g : Registers) → AreFrames m (p ∷ parts) limit g → stack_pointer g ≤ machine_stack_pointer (root_of p parts).entry
 root_above m p [] limit g frames = not_above true limit p m g frames.0 frames.2
 root_above m p (q ∷ parts) limit g frames =
-    let here = not_above false limit p m g frames.0 frames.2 in
-    let rest = root_above m q parts None (registers_of p.entry) frames.4 in
-    omega arith
+    omega (arith, root_above m q parts None (registers_of p.entry) frames.4, not_above false limit p m g frames.0 frames.2)
 
 -- the known memory has the eight bytes that the stack pointer points at where the function was entered
 root_word : (m : ℕ → Option ℕ) (p : Part) (parts : List Part) (limit : Option ℕ) (g : Registers) → AreFrames m (p ∷ parts) limit g →
@@ -241,11 +191,7 @@ Called m parts limit g e = (u : Registers) × (returned m (stack_pointer g) e �
 
 popped_ok : (m : ℕ → Option ℕ) (t a p : ℕ) (v : Registers) → stack_pointer v ≡ t → m t ≡ Some a → t + 8 < 2 ^ 64 → p ≤ t → length v.general ≡ 16 →
     returned m p (v, false) ≡ Ok (put_rip (put_register v 4 (t + 8)) a)
-popped_ok m t a p v at word room low count =
-    let here : m (stack_pointer v) ≡ Some a = ap m at ∙ word in
-    let set_stack : get_or (set v.general 4 (t + 8)) 4 0 ≡ t + 8 = pointer_set v.general (t + 8) count in
-    let test : ltb p (t + 8) ≡ true = lt-ltb p (t + 8) (omega arith) in
-    rw (undone.number_ok m (stack_pointer v) a here) (rw (undone.raised_at 8 t v at room) (rw set_stack (rw test refl)))
+popped_ok m t a p v at word room low count = grind (arith, get_or, pointer_set, lt-ltb, undone.number_ok, undone.raised_at)
 
 pub called : (m : ℕ → Option ℕ) (p : Part) (parts : List Part) (limit : Option ℕ) (g v : Registers) (b : Bool) → AreFrames m (p ∷ parts) limit g → length v.general ≡ 16 → LeftAt (p ∷ parts) limit b v
     → ((r : ℕ) → r ≢ 4 → get_or v.general r 0 ≡ restored (p ∷ parts) limit r (get_or g.general r 0)) → ((r : ℕ) → get_or v.xmm r 0 ≡ restored_xmm (p ∷ parts) limit r (get_or g.xmm r 0)) → Called m (p ∷ parts) limit g (v, b)
@@ -265,8 +211,7 @@ called m p parts limit g v false frames count at registers xmm_registers =
     )
 
 same_ok : (x : Result Registers FrameError) (u : Registers) → by_kind x ≡ by_kind (Ok u) → x ≡ Ok u
-same_ok (Ok v) u e = cc
-same_ok (Err d) u e = cc
+same_ok x u e = grind arith
 
 abbrev pub CalledBy : List Part → Option ℕ → Registers → Result Registers FrameError → Type 0
 CalledBy parts limit g x = (u : Registers) × (x ≡ Ok u) × IsCaller parts limit g u

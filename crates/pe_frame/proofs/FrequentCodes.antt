@@ -1,20 +1,9 @@
 -- The codes with which a stream starts, undone one after the other before a survey.
-use Rattle.std.proofs.Common.{◌≡◌, ℕ, ◌+◌, ◌*◌, ◌/◌, ◌%◌, ◌≤◌, false, inl, inr, List, [], ◌∷◌, length, drop, get_or, Option, None, Result, Ok, refl, sym, ◌∙◌, subst, arith}
-use Rattle.std.specs.Prelude.{slice_index}
-use Rattle.pe_core.specs.Bytes.{le}
-use Rattle.pe_core.specs.declared.error.Error.{Error}
-use Rattle.pe_unwind.proofs.SpellingLengths.{starts_2, starts_4, word_at_2}
-use Rattle.pe_unwind.specs.CodeStream.{AreItems, CodeStream, with_left}
-use Rattle.pe_unwind.specs.UnwindCodes.{integer}
-use Rattle.pe_unwind.specs.UnwindRecord.{UnwindInfoView, code_stream}
-use Rattle.pe_unwind.specs.declared.unwind_code.UnwindCode.{UnwindCode}
-use Rattle.pe_unwind.specs.declared.unwind_code.UnwindOperation.{UnwindOperation}
-use Rattle.pe_unwind.specs.declared.unwind_code.UnwindOperation.TheVariants.{Alloc, PushNonVolatile}
-use Rattle.pe_frame.specs.declared.error.FrameError.{FrameError}
-use Rattle.pe_frame.specs.declared.registers.Registers.{Registers}
-use Rattle.pe_frame.specs.Undoing.{interrupts, sets_frame_register, undone}
-use Rattle.pe_frame.specs.Steps.{known_codes}
-use Rattle.pe_frame.specs.Survey.{IsFrequent, SurveysUndone, UndoesFirst, nothing_known, survey_with}
+use Rattle.std.proofs.Common.{◌≡◌, ℕ, ◌+◌, ◌*◌, ◌/◌, ◌%◌, ◌≤◌, false, inl, inr, List, ◌∷◌, length, drop, Option, None, Result, Ok, refl, sym, ◌∙◌, subst, arith, []}
+use Rattle.pe_frame.proofs.Cited.{slice_index, le, starts_2, starts_4, word_at_2, AreItems, CodeStream, with_left, integer, UnwindInfoView}
+use Rattle.pe_frame.proofs.Cited.{code_stream, UnwindCode, UnwindOperation, Alloc, PushNonVolatile, FrameError, Registers, interrupts}
+use Rattle.pe_frame.proofs.Cited.{sets_frame_register, undone, known_codes, IsFrequent, SurveysUndone, UndoesFirst, nothing_known}
+use Rattle.pe_frame.proofs.Cited.{survey_with}
 use Rattle.pe_frame.proofs.Streams.{same_survey, undone_more, undone_none}
 
 pub pushed : (b : List ℕ) → 2 ≤ length b → slice_index b 1 % 16 ≡ 0 → IsFrequent b (PushNonVolatile (integer (slice_index b 1 / 16))) 2
@@ -23,11 +12,8 @@ pushed b some op = (some, λ v f. starts_2 v f b _ some (inl (op, refl)), refl, 
 pub allocated : (b : List ℕ) → 2 ≤ length b → slice_index b 1 % 16 ≡ 2 → IsFrequent b (Alloc (slice_index b 1 / 16 * 8 + 8)) 2
 allocated b some op = (some, λ v f. starts_2 v f b _ some (inr (inl (op, refl))), refl, refl)
 
-allocated_words : (b : List ℕ) → 4 ≤ length b → slice_index b 1 % 16 ≡ 1 → slice_index b 1 / 16 ≡ 0 → IsFrequent b (Alloc ((get_or b 2 0 + 256 * get_or b 3 0) * 8)) 4
-allocated_words b some op info = (some, λ v f. starts_4 v f b _ some (inl (op, info, refl)), refl, refl)
-
 pub allocated_more : (b : List ℕ) → 4 ≤ length b → slice_index b 1 % 16 ≡ 1 → slice_index b 1 / 16 ≡ 0 → IsFrequent b (Alloc (le b 2 2 * 8)) 4
-allocated_more b some op info = subst (λ (n : ℕ). IsFrequent b (Alloc (n * 8)) 4) (sym (word_at_2 b)) (allocated_words b some op info)
+allocated_more b some op info = grind (arith, word_at_2, starts_4)
 
 -- nothing is known of such a code
 pub plain : (c : UnwindCode) → sets_frame_register c.operation ≡ false → interrupts c.operation ≡ false → nothing_known ≡ survey_with None nothing_known c
@@ -42,8 +28,7 @@ pub one_more : (m : ℕ → Option ℕ) (base : ℕ) (s t : CodeStream) (left : 
     UndoesFirst m base None s t g (Ok h) → IsFrequent t.content o n → left ≡ drop n t.content → q ≡ undone m base o h → UndoesFirst m base None s (with_left t left) g q
 one_more m base s t left o n g h q first is at e rest are =
     let code : UnwindCode = record { code_offset = slice_index t.content 0; operation = o } in
-    let here : AreItems (with_left t (drop n t.content)) rest = subst (λ (x : List ℕ). AreItems (with_left t x) rest) at are in
-    let all = first (Ok code ∷ rest) (n, is.1 t.version t.frame, here) in
+    let all = first (Ok code ∷ rest) (n, is.1 t.version t.frame, subst (λ (x : List ℕ). AreItems (with_left t x) rest) at are) in
     (all.0, all.1, all.2 ∙ undone_more m base None nothing_known nothing_known (Ok h) q code rest (plain code is.2 is.3) e)
 
 pub no_bytes : (x : List ℕ) → length x ≡ 0 → x ≡ []

@@ -1,16 +1,9 @@
 -- A search of a function table that reads the starts of its entries alone.
-use Rattle.std.proofs.Common.{◌≡◌, ℕ, ◌+◌, ◌-◌, ◌*◌, ◌/◌, ◌<◌, ◌≤◌, List, length, get_or, take, Option, Some, None, true, refl, ap, sym, ◌∙◌, subst, arith}
-use Rattle.std.specs.List.{last_or}
-use Rattle.std.proofs.lemmas.List.{take_more}
-use Rattle.pe_core.proofs.EntryItems.{count_of_whole_entries}
-use Rattle.std.proofs.lemmas.Bool.Decides.{nat_tests}
-use Rattle.pe_core.specs.Bytes.{holds, le}
-use Rattle.pe_core.specs.CountedTable.{entry_of, u32_of}
-use Rattle.pe_core.specs.Rows.{whole_entries}
-use Rattle.pe_unwind.specs.FunctionTable.{function_at, functions}
-use Rattle.pe_unwind.specs.Lookup.{FindsStart}
-use Rattle.pe_unwind.specs.declared.function_table.RuntimeFunction.{RuntimeFunction}
-use Rattle.pe_unwind.proofs.Searches.{SearchesAt, ends, entry_ends, entry_is, goes_down, goes_up, last_or-append, starts}
+use Rattle.std.proofs.Common.{◌≡◌, ℕ, ◌+◌, ◌-◌, ◌*◌, ◌<◌, ◌≤◌, List, length, get_or, take, Option, Some, None, true, refl, ap, ◌∙◌, subst, arith}
+use Rattle.pe_frame.proofs.Cited.{last_or, take_more, count_of_whole_entries, nat_tests, holds, le, u32_of, whole_entries, function_at}
+use Rattle.pe_frame.proofs.Cited.{functions, FindsStart, RuntimeFunction, SearchesAt, ends, entry_ends, entry_is, goes_down, goes_up}
+use Rattle.pe_frame.proofs.Cited.{last_or-append, starts}
+use Rattle.pe_core.specs.CountedTable.{entry_of}
 
 module _ (b : List ℕ) where
   abbrev entries : List RuntimeFunction

@@ -1,25 +1,11 @@
 -- A jump leads to the caller of the frame at its target.
-use Rattle.pe_core.specs.Refusals.{Refusal, ◌>>=◌}
-use Rattle.std.proofs.Common.{◌≡◌, ℕ, ◌-◌, ◌<◌, ◌≤◌, ◌⊎◌, inl, inr, Bool, true, false, ltb, List, [], ◌∷◌, ◌++◌, length, Option, Some, None, Result, Ok, Err, refl, ap, sym, ◌∙◌, subst, arith}
-use Rattle.std.proofs.lemmas.Bool.{lt-ltb}
-use Rattle.pe_core.proofs.Steps.{then_then}
-use Rattle.pe_unwind.specs.ExceptionTable.{ExceptionView, table_of}
-use Rattle.pe_unwind.specs.FunctionTable.{functions, NeverFalls}
-use Rattle.pe_unwind.specs.Links.{links_with}
-use Rattle.pe_unwind.specs.UnwindRecord.{UnwindInfoView}
-use Rattle.pe_unwind.specs.declared.function_table.RuntimeFunction.{RuntimeFunction}
-use Rattle.pe_unwind.specs.declared.unwind_code.UnwindCode.{UnwindCode}
-use Rattle.pe_plan.proofs.RecordLaw.{RecordLaw}
-use Rattle.pe_frame.specs.Epilogs.{epilog_at, executed, executed_all}
-use Rattle.pe_frame.specs.EpilogFrames.{IsEpilogOfParts, AreReady}
-use Rattle.pe_frame.specs.Frames.{AreFrames, IsCaller, Part, infos}
-use Rattle.pe_frame.specs.Jumps.{IsEntry, IsPlace, IsPlaceIn, LeavesFor, Place, StepsInImage, StepsInImageFrom, before_last, place_in, rising_out, target_of}
-use Rattle.pe_frame.specs.Steps.{UndoesFunction, Then, UndoesRecords, by_kind, frame_register_in, limit_of, registers_alone, returned_out, rising}
-use Rattle.pe_frame.specs.Undoing.{FrameRegister, frame_base_of, entered, any_sets_frame_register, stack_pointer, popped, ran}
-use Rattle.pe_frame.specs.declared.epilog.Instruction.{Instruction}
-use Rattle.pe_frame.specs.declared.epilog.Instruction.TheVariants.{Jump}
-use Rattle.pe_frame.specs.declared.error.FrameError.{FrameError}
-use Rattle.pe_frame.specs.declared.registers.Registers.{Registers}
+use Rattle.std.proofs.Common.{◌≡◌, ℕ, ◌-◌, ◌<◌, ◌≤◌, ◌⊎◌, Bool, true, false, List, ◌∷◌, ◌++◌, length, Option, Some, None, Result, Ok, Err, refl, ap, sym, ◌∙◌, subst, arith, rules, []}
+use Rattle.pe_frame.proofs.Cited.{◌>>=◌, lt-ltb, then_then, ExceptionView, table_of, functions, NeverFalls, links_with, UnwindInfoView}
+use Rattle.pe_frame.proofs.Cited.{RuntimeFunction, UnwindCode, RecordLaw, epilog_at, executed_all, IsEpilogOfParts, AreReady, AreFrames}
+use Rattle.pe_frame.proofs.Cited.{IsCaller, Part, infos, IsEntry, IsPlace, IsPlaceIn, LeavesFor, Place, StepsInImage, StepsInImageFrom}
+use Rattle.pe_frame.proofs.Cited.{before_last, place_in, rising_out, target_of, UndoesFunction, Then, UndoesRecords, by_kind}
+use Rattle.pe_frame.proofs.Cited.{frame_register_in, limit_of, registers_alone, returned_out, rising, FrameRegister, entered}
+use Rattle.pe_frame.proofs.Cited.{any_sets_frame_register, stack_pointer, popped, ran, Instruction, Jump, FrameError, Registers}
 use Rattle.pe_frame.proofs.Frames.{caller_at}
 use Rattle.pe_frame.proofs.OneShortPlan.{one_short_plan}
 use Rattle.pe_frame.proofs.OneStep.{one_undoing, same_then, some_undoing}
@@ -32,18 +18,8 @@ use Rattle.pe_frame.proofs.Undone.{base_plain}
 
 -- ---- places
 
-one_place_in : (law : RecordLaw) (e : ExceptionView) (rva_map : ℕ → Option ℕ) (a : ℕ) (found : Option RuntimeFunction) (x y : Option Place) → IsPlaceIn e rva_map a found x → IsPlaceIn e rva_map a found y → x ≡ y
-one_place_in law e rva_map a None x y h k = h ∙ sym k
-one_place_in law e rva_map a (Some f) x y h k =
-    let same = one_short_plan law (links_with e rva_map) e.content f h.0 k.0 h.1 k.1 in
-    h.2 ∙ (ap (λ (p : Result (Option (List UnwindInfoView)) Refusal). place_in a f p) same ∙ sym k.2)
-
 pub one_place : (law : RecordLaw) (e : ExceptionView) (rva_map : ℕ → Option ℕ) (target : Option ℕ) (x y : Option Place) → NeverFalls (functions (table_of e)) → IsPlace e rva_map target x → IsPlace e rva_map target y → x ≡ y
-one_place law e rva_map None x y sorted h k = h ∙ sym k
-one_place law e rva_map (Some a) x y sorted h k =
-    let same = (h.1).scanned sorted ∙ sym ((k.1).scanned sorted) in
-    let here = subst (λ (f : Option RuntimeFunction). IsPlaceIn e rva_map a f x) same h.2 in
-    one_place_in law e rva_map a k.0 x y here k.2
+one_place law e rva_map target x y sorted h k = grind (arith, one_short_plan)
 
 some_place_in : (law : RecordLaw) (e : ExceptionView) (rva_map : ℕ → Option ℕ) (a : ℕ) (found : Option RuntimeFunction) → (x : Option Place) × IsPlaceIn e rva_map a found x
 some_place_in law e rva_map a None = (None, refl)
@@ -61,8 +37,7 @@ some_place law e rva_map (Some a) =
 -- ---- one step
 
 one_out : (m : ℕ → Option ℕ) (plan : List UnwindInfoView) (offset : ℕ) (g : Registers) (x y : Result (Registers × Bool) FrameError) → UndoesFunction m plan offset g x → UndoesFunction m plan offset g y → by_kind x ≡ by_kind y
-one_out m plan offset g x y h k =
-    rw h.2 (rw k.2 (same_then h.0 k.0 (returned_out m (stack_pointer g)) (one_undoing m plan (limit_of plan offset) false g h.0 k.0 h.1 k.1)))
+one_out m plan offset g x y h k = grind (arith, same_then, one_undoing)
 
 some_out : (m : ℕ → Option ℕ) (plan : List UnwindInfoView) (offset : ℕ) (g : Registers) → (left : Result (Registers × Bool) FrameError) × UndoesFunction m plan offset g left
 some_out m plan offset g =
@@ -78,9 +53,7 @@ some_from m plan offset (Ok h) = some_out m plan offset h
 some_from m plan offset (Err e) = (Err e, refl)
 
 one_left : (place : Option Place) (m : ℕ → Option ℕ) (rest : List Instruction) (g : Registers) (x y : Result (Registers × Bool) FrameError) → LeavesFor place m rest g x → LeavesFor place m rest g y → by_kind x ≡ by_kind y
-one_left None m rest g x y h k = ap by_kind (h ∙ sym k)
-one_left (Some place) m rest g x y h k =
-    rw h.2 (rw k.2 (same_then h.0 k.0 (rising_out (stack_pointer g)) (one_from m place.plan place.offset (executed_all m (before_last rest) g) h.0 k.0 h.1 k.1)))
+one_left place m rest g x y h k = grind (arith, same_then, one_from)
 
 some_left : (place : Option Place) (m : ℕ → Option ℕ) (rest : List Instruction) (g : Registers) → (x : Result (Registers × Bool) FrameError) × LeavesFor place m rest g x
 some_left None m rest g = ((executed_all m rest g >>= rising (stack_pointer g)) >>= λ u. Ok (u, false), refl)
@@ -91,10 +64,7 @@ some_left (Some place) m rest g =
 pub one_in_image : (law : RecordLaw) (e : ExceptionView) (rva_map : ℕ → Option ℕ) (o : Option (List Instruction)) (m : ℕ → Option ℕ) (plan : List UnwindInfoView) (offset : ℕ) (g : Registers) (x y : Result (Registers × Bool) FrameError) →
     NeverFalls (functions (table_of e)) → StepsInImageFrom e rva_map o m plan offset g x → StepsInImageFrom e rva_map o m plan offset g y → by_kind x ≡ by_kind y
 one_in_image law e rva_map None m plan offset g x y sorted h k = one_out m plan offset g x y h k
-one_in_image law e rva_map (Some rest) m plan offset g x y sorted h k =
-    let same = one_place law e rva_map (target_of rest) h.0 k.0 sorted h.1 k.1 in
-    let here = subst (λ (p : Option Place). LeavesFor p m rest g x) same h.2 in
-    one_left k.0 m rest g x y here k.2
+one_in_image law e rva_map (Some rest) m plan offset g x y sorted h k = grind (arith, one_place, one_left)
 
 pub some_in_image : (law : RecordLaw) (e : ExceptionView) (rva_map : ℕ → Option ℕ) (o : Option (List Instruction)) (m : ℕ → Option ℕ) (plan : List UnwindInfoView) (offset : ℕ) (g : Registers) → (x : Result (Registers × Bool) FrameError) × StepsInImageFrom e rva_map o m plan offset g x
 some_in_image law e rva_map None m plan offset g = some_out m plan offset g
@@ -117,28 +87,18 @@ is_left (Ok u) = u.1
 is_left (Err e) = false
 
 apart : (u v : Registers) → ◌≡◌ {A = Result (Registers × Bool) FrameError} (Ok (u, false)) (Ok (v, true)) → ⊥
-apart u v e = let same : false ≡ true = ap is_left e in cc same
+apart u v e = cc (ap is_left e)
 
 -- a step that no interrupt took out of a function raised the stack pointer
 out_rose : (m : ℕ → Option ℕ) (p : ℕ) (entry : Result (Registers × Bool) FrameError) (u : Registers) → Ok (u, false) ≡ (entry >>= returned_out m p) → p < stack_pointer u
-out_rose m p (Ok (v, true)) u e = absurd (apart u v e)
-out_rose m p (Ok (v, false)) u e =
-    let w = went (popped m v >>= rising p) (λ c. Ok (c, false)) (u, false) (sym e) in
-    let c = went (popped m v) (rising p) w.value w.first in
-    let up = rose p c.value w.value c.next in
-    let same = same_pair w.value u w.next in
-    subst (λ (x : Registers). p < stack_pointer x) (up.same ∙ same) up.low
-out_rose m p (Err d) u e = absurd (cc e)
+out_rose m p entry u e = grind (arith, apart, went, rose, same_pair)
 
 pub ok_alone : (left : Result (Registers × Bool) FrameError) (u : Registers) → registers_alone left ≡ Ok u → (b : Bool) × (left ≡ Ok (u, b))
-ok_alone (Ok v) u e = let same : v.0 ≡ u = cc e in (v.1, ap (λ (x : Registers). Ok (x, v.1)) same)
+ok_alone (Ok v) u e = (v.1, ap (λ (x : Registers). Ok (x, v.1)) (cc e))
 ok_alone (Err d) u e = absurd (cc e)
 
 risen : (p : ℕ) (u : Registers) (b : Bool) → (b ≡ false → p < stack_pointer u) → rising_out p (u, b) ≡ Ok (u, b)
-risen p u true low = refl
-risen p u false low =
-    let test : ltb p (stack_pointer u) ≡ true = lt-ltb p (stack_pointer u) (low refl) in
-    rw test refl
+risen p u b low = grind (arith, lt-ltb)
 
 abbrev FollowedTo : List Part → Option ℕ → Registers → Result (Registers × Bool) FrameError → Type 0
 FollowedTo parts limit h x = (u : Registers × Bool) × (x ≡ Ok u) × IsCaller parts limit h u.0
@@ -160,8 +120,7 @@ pub followed : (law : RecordLaw) (e : ExceptionView) (rva_map : ℕ → Option �
 followed law e rva_map m plan start rva offset code rest p parts g h x decodes sorted place ran low frames steps =
     let there = subst (λ (o : Option (List Instruction)). StepsInImageFrom e rva_map o m plan (rva - start) g x) decodes steps in
     let same = one_place law e rva_map (target_of rest) there.0 (Some (record { offset = offset; plan = infos (p ∷ parts) })) sorted there.1 place in
-    let leaves = subst (λ (q : Option Place). LeavesFor q m rest g x) same there.2 in
-    followed_from m p parts offset rest g h x ran low frames leaves
+    followed_from m p parts offset rest g h x ran low frames (subst (λ (q : Option Place). LeavesFor q m rest g x) same there.2)
 
 -- ---- a jump that leads to no function whose records are known
 
@@ -173,8 +132,7 @@ returned_in_image law e rva_map m p parts before rest i start rva code g h x fra
     let there = subst (λ (o : Option (List Instruction)). StepsInImageFrom e rva_map o m (infos (p ∷ parts)) (rva - start) h x) decodes steps in
     let same = one_place law e rva_map (target_of (i ∷ rest)) there.0 None sorted there.1 place in
     let leaves = subst (λ (q : Option Place). LeavesFor q m (i ∷ rest) h x) same there.2 in
-    let test : ltb (stack_pointer h) (stack_pointer c.caller) ≡ true = lt-ltb (stack_pointer h) (stack_pointer c.caller) c.ends.below in
-    (c.caller, leaves ∙ rw c.ends.all (rw test refl), c.is)
+    (c.caller, leaves ∙ rw c.ends.all (rw (lt-ltb (stack_pointer h) (stack_pointer c.caller) c.ends.below) refl), c.is)
 
 -- ---- a jump to a place where nothing of a function has run
 
@@ -183,16 +141,13 @@ run_jump : (m : ℕ → Option ℕ) (is : List Instruction) (a : ℕ) (g : Regis
 run_jump m [] a g e = absurd (cc e)
 run_jump m (Jump b ∷ []) a g e = then_ok (popped m g)
 run_jump m (other ∷ []) a g e = absurd (cc e)
-run_jump m (i ∷ j ∷ is) a g e =
-    then_same (executed m i g) (executed_all m (j ∷ is)) (λ v. executed_all m (before_last (j ∷ is)) v >>= popped m) (λ v. run_jump m (j ∷ is) a v e)
-    ∙ sym (then_then (executed m i g) (executed_all m (before_last (j ∷ is))) (popped m))
+run_jump m (i ∷ j ∷ is) a g e = search (rules, arith, then_same, then_then, run_jump m (j ∷ is) a)
 
 nothing_undone : (m : ℕ → Option ℕ) (f : FrameRegister) (limit : Option ℕ) (codes : List UnwindCode) (g : Registers) → ran limit codes ≡ [] → (f.register ≡ 0) ⊎ (any_sets_frame_register (ran None codes) ≡ true) → entered m f limit codes g ≡ Ok (g, false)
 nothing_undone m f limit codes g none framed = rw none (rw (base_plain f (any_sets_frame_register (ran None codes)) g framed) refl)
 
 same_out : (x : Result (Registers × Bool) FrameError) (u : Registers × Bool) → by_kind x ≡ by_kind (Ok u) → x ≡ Ok u
-same_out (Ok v) u e = cc
-same_out (Err d) u e = cc
+same_out x u e = grind arith
 
 entry_steps : (m : ℕ → Option ℕ) (place : Place) (t u : Registers) → IsEntry place → popped m t ≡ Ok u → stack_pointer t < stack_pointer u → UndoesFunction m place.plan place.offset t (Ok (u, false))
 entry_steps m place t u entry pops low =
@@ -200,8 +155,7 @@ entry_steps m place t u entry pops low =
     let is : entered m (frame_register_in entry.info) limit entry.codes t ≡ Ok (t, false) = nothing_undone m (frame_register_in entry.info) limit entry.codes t entry.none entry.frame in
     let one : UndoesRecords m (entry.info ∷ []) limit false t (Ok (t, false)) = (Ok (t, false), (Ok entry.codes, entry.known, sym is), refl) in
     let all : UndoesRecords m place.plan limit false t (Ok (t, false)) = subst (λ (is : List UnwindInfoView). UndoesRecords m is limit false t (Ok (t, false))) (sym entry.alone) one in
-    let test : ltb (stack_pointer t) (stack_pointer u) ≡ true = lt-ltb (stack_pointer t) (stack_pointer u) low in
-    (Ok (t, false), all, rw pops (rw test refl))
+    (Ok (t, false), all, rw pops (rw (lt-ltb (stack_pointer t) (stack_pointer u) low) refl))
 
 entered_from : (m : ℕ → Option ℕ) (place : Place) (rest : List Instruction) (h t u : Registers) (x : Result (Registers × Bool) FrameError) → IsEntry place → executed_all m (before_last rest) h ≡ Ok t → popped m t ≡ Ok u → stack_pointer t < stack_pointer u → stack_pointer h < stack_pointer u →
     LeavesFor (Some place) m rest h x → x ≡ Ok (u, false)
@@ -211,8 +165,7 @@ entered_from m place rest h t u x entry ran_so_far pops low below leaves =
     leaves.2 ∙ (ap (λ (l : Result (Registers × Bool) FrameError). l >>= rising_out (stack_pointer h)) is ∙ risen (stack_pointer h) u false (λ e. below))
 
 target_there : (e : ExceptionView) (rva_map : ℕ → Option ℕ) (target : Option ℕ) (place : Place) → IsPlace e rva_map target (Some place) → (a : ℕ) × (target ≡ Some a)
-target_there e rva_map None place is = absurd (cc is)
-target_there e rva_map (Some a) place is = (a, refl)
+target_there e rva_map target place is = grind arith
 
 pub returned_by_entry : (law : RecordLaw) (e : ExceptionView) (rva_map : ℕ → Option ℕ) (place : Place) (m : ℕ → Option ℕ) (p : Part) (parts : List Part) (before rest : List Instruction) (i : Instruction) (start rva : ℕ) (code : List ℕ) (g h t : Registers) (x : Result (Registers × Bool) FrameError) →
     AreFrames m (p ∷ parts) None g → IsEpilogOfParts (p ∷ parts) (before ++ (i ∷ rest)) → AreReady (p ∷ parts) (before ++ (i ∷ rest)) g → executed_all m before g ≡ Ok h → epilog_at (infos (p ∷ parts)) start rva code ≡ Some (i ∷ rest) →

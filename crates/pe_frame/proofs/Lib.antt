@@ -1,3 +1,4 @@
+mod Cited
 pub mod Streams
 pub mod FrequentCodes
 pub mod Records

@@ -1,21 +1,14 @@
 -- A word that stands in one of several pieces in ascending order.
-use Rattle.std.proofs.Common.{◌≡◌, ℕ, suc, ◌+◌, ◌-◌, ◌^◌, ◌<◌, ◌≤◌, Bool, true, false, cond, List, [], ◌∷◌, length, Option, Some, get_or, refl, ap, sym, ◌∙◌, subst, arith}
-use Rattle.std.specs.List.{find}
-use Rattle.pe_core.specs.Bytes.{le}
-use Rattle.std.proofs.lemmas.Bool.Decides.{nat_tests}
-use Rattle.pe_lookup.specs.AddressRanges.{AreAscending, has_address}
-use Rattle.pe_frame.specs.Machine.{loaded}
-use Rattle.pe_frame.specs.MemoryLists.{has_word, listed_byte, listed_word, lists_byte}
-use Rattle.pe_frame.specs.declared.memory_list.MemoryPiece.{MemoryPiece}
+use Rattle.std.proofs.Common.{◌≡◌, ℕ, suc, ◌+◌, ◌-◌, ◌^◌, ◌<◌, ◌≤◌, Bool, true, false, cond, List, ◌∷◌, length, Option, Some, get_or, refl, ap, sym, ◌∙◌, subst, arith, []}
+use Rattle.pe_frame.proofs.Cited.{find, le, nat_tests, AreAscending, has_address, loaded, has_word, listed_byte, listed_word, lists_byte}
+use Rattle.pe_frame.proofs.Cited.{MemoryPiece, ends_before, has_it, is_within}
 use Rattle.pe_frame.proofs.Begun.{number_shown}
-use Rattle.pe_lookup.proofs.Lookups.{ends_before, has_it, is_within}
 use Rattle.pe_frame.proofs.PiecesShow.{word_known}
 
 -- ---- the range that has an address
 
 taken : {X : Type 0} (P : X → Type 0) (y x : X) (t : Bool) (rest : Option X) → P y → (rest ≡ Some x → P x) → cond t (Some y) rest ≡ Some x → P x
-taken P y x true rest h more e = let same : y ≡ x = cc e in subst P same h
-taken P y x false rest h more e = more e
+taken P y x t rest h more e = grind arith
 
 -- what is found is as all are
 found_is : {X : Type 0} (p : X → Bool) (P : X → Type 0) (xs : List X) (x : X) → ((k : ℕ) → k < length xs → P (get_or xs k x)) → find p xs ≡ Some x → P x
@@ -65,8 +58,7 @@ word_asked bytes pieces p a first from to fits =
     word ∙ sym (ap (λ (v : ℕ). Some v) (number_shown bytes (p.offset + (a - p.start)) a 8 memory (omega arith) (λ i small. ap (λ (k : ℕ). get_or bytes k 0) (omega (arith, from)))))
 
 pub word_in_piece : (bytes : List ℕ) (pieces : List MemoryPiece) (p : MemoryPiece) (a : ℕ) → AreAscending (λ q. q.start) (λ q. q.length) pieces → find (lists_byte a) pieces ≡ Some p → p.start ≤ a → a + 8 ≤ p.start + p.length → a + 8 ≤ 2 ^ 64 → listed_word bytes pieces a ≡ Some (le bytes (p.offset + (a - p.start)) 8)
-word_in_piece bytes pieces p a up found from to fits =
-    word_asked bytes pieces p a (λ b has. first_near pieces p a b up found has) from to fits
+word_in_piece bytes pieces p a up found from to fits = grind (arith, word_asked, first_near)
 
 -- an address at which a word starts of those that are whole in a piece
 module _ (p : MemoryPiece) (words a : ℕ) (whole : (k : ℕ) → k < words → has_word (p.start + k) p ≡ true) (from : p.start ≤ a) (lt : a - p.start < words) where

@@ -1,36 +1,20 @@
 -- There is one step, up to the numbers in a refusal of codes.
-use Rattle.std.proofs.Common.{◌≡◌, ℕ, Bool, false, ◌||◌, List, [], ◌∷◌, map, Option, Some, None, Result, Ok, Err, refl, ap, sym, ◌∙◌, subst}
-use Rattle.pe_core.specs.Refusals.{Refusal, kind_of, answer_of, ◌>>=◌}
-use Rattle.pe_core.specs.declared.error.Error.{Error}
-use Rattle.pe_unwind.specs.declared.unwind_code.UnwindCode.{UnwindCode}
-use Rattle.pe_unwind.specs.UnwindRecord.{UnwindInfoView, code_stream}
-use Rattle.pe_unwind.proofs.Streams.{one_reading, some_items}
-use Rattle.pe_frame.specs.declared.epilog.Instruction.{Instruction}
-use Rattle.pe_frame.specs.declared.error.FrameError.{FrameError}
-use Rattle.pe_frame.specs.declared.registers.Registers.{Registers}
-use Rattle.pe_frame.specs.Undoing.{entered, stack_pointer}
-use Rattle.pe_frame.specs.Steps.{known_codes, HasCodes, frame_register_in, limit_of, Enters, Then, UndoesRecords, returned, rising, Steps, OfCodes, error_kind, by_kind}
-use Rattle.pe_frame.specs.Epilogs.{executed_all, StepsFrom}
+use Rattle.std.proofs.Common.{◌≡◌, ℕ, Bool, false, ◌||◌, List, ◌∷◌, map, Option, Some, None, Result, Ok, Err, refl, ap, sym, ◌∙◌, arith, []}
+use Rattle.pe_frame.proofs.Cited.{answer_of, ◌>>=◌, Error, UnwindCode, UnwindInfoView, code_stream, one_reading, some_items, Instruction}
+use Rattle.pe_frame.proofs.Cited.{FrameError, Registers, entered, stack_pointer, known_codes, HasCodes, frame_register_in, limit_of, Enters}
+use Rattle.pe_frame.proofs.Cited.{Then, UndoesRecords, returned, rising, Steps, by_kind, executed_all, StepsFrom}
 
 pub same_then : {A B : Type 0} (x y : Result A FrameError) (f : A → Result B FrameError) → by_kind x ≡ by_kind y → by_kind (x >>= f) ≡ by_kind (y >>= f)
-same_then (Ok x) (Ok y) f e = let same : x ≡ y = cc in ap (λ z. by_kind (f z)) same
-same_then (Ok x) (Err d) f e = cc
-same_then (Err d) (Ok y) f e = cc
-same_then (Err d) (Err e) f h = let same : error_kind d ≡ error_kind e = cc in ap Err same
+same_then x y f e = grind arith
 
 one_list : (xs ys : List (Result UnwindCode Error)) → map answer_of xs ≡ map answer_of ys → by_kind (known_codes xs) ≡ by_kind (known_codes ys)
 one_list [] [] e = refl
 one_list [] (y ∷ ys) e = cc
 one_list (x ∷ xs) [] e = cc
-one_list (Ok c ∷ xs) (Ok d ∷ ys) e =
-    let same : c ≡ d = cc in
-    let rest : map answer_of xs ≡ map answer_of ys = cc in
-    ap (λ (z : UnwindCode). by_kind (known_codes xs >>= λ cs. Ok (z ∷ cs))) same ∙ same_then (known_codes xs) (known_codes ys) (λ cs. Ok (d ∷ cs)) (one_list xs ys rest)
+one_list (Ok c ∷ xs) (Ok d ∷ ys) e = grind (arith, same_then, one_list xs ys)
 one_list (Ok c ∷ xs) (Err d ∷ ys) e = cc
 one_list (Err c ∷ xs) (Ok d ∷ ys) e = cc
-one_list (Err c ∷ xs) (Err d ∷ ys) e =
-    let same : kind_of c ≡ kind_of d = cc in
-    ap (λ (k : Refusal). Err (OfCodes k)) same
+one_list (Err c ∷ xs) (Err d ∷ ys) e = grind arith
 
 pub one_codes : (i : UnwindInfoView) (x y : Result (List UnwindCode) FrameError) → HasCodes i x → HasCodes i y → by_kind x ≡ by_kind y
 one_codes i x y h k = rw h.2 (rw k.2 (one_list h.0 k.0 (one_reading (code_stream i) h.0 k.0 h.1 k.1)))
@@ -45,12 +29,7 @@ Undone m is b u answer = UndoesRecords m is None (b || u.1) u.0 answer
 one_then : (m : ℕ → Option ℕ) (is : List UnwindInfoView) (b : Bool) (d e x y : Result (Registers × Bool) FrameError) → by_kind d ≡ by_kind e →
     ((u : Registers × Bool) → Undone m is b u x → Undone m is b u y → by_kind x ≡ by_kind y) →
     Then d (Undone m is b) x → Then e (Undone m is b) y → by_kind x ≡ by_kind y
-one_then m is b (Ok u) (Ok v) x y h next k l = let same : u ≡ v = cc in next v (subst (λ z. Undone m is b z x) same k) l
-one_then m is b (Ok u) (Err e) x y h next k l = cc
-one_then m is b (Err d) (Ok v) x y h next k l = cc
-one_then m is b (Err d) (Err e) x y h next k l =
-    let same : error_kind d ≡ error_kind e = cc in
-    ap by_kind k ∙ (ap Err same ∙ sym (ap by_kind l))
+one_then m is b d e x y h next k l = grind arith
 
 pub one_undoing : (m : ℕ → Option ℕ) (is : List UnwindInfoView) (limit : Option ℕ) (b : Bool) (g : Registers) (x y : Result (Registers × Bool) FrameError) →
     UndoesRecords m is limit b g x → UndoesRecords m is limit b g y → by_kind x ≡ by_kind y
@@ -60,8 +39,7 @@ one_undoing m (i ∷ is) limit b g x y h k =
 
 pub one_step : (m : ℕ → Option ℕ) (plan : List UnwindInfoView) (offset : ℕ) (g : Registers) (x y : Result Registers FrameError) →
     Steps m plan offset g x → Steps m plan offset g y → by_kind x ≡ by_kind y
-one_step m plan offset g x y h k =
-    rw h.2 (rw k.2 (same_then h.0 k.0 (returned m (stack_pointer g)) (one_undoing m plan (limit_of plan offset) false g h.0 k.0 h.1 k.1)))
+one_step m plan offset g x y h k = grind (arith, same_then, one_undoing)
 
 some_then : (m : ℕ → Option ℕ) (is : List UnwindInfoView) (b : Bool) (e : Result (Registers × Bool) FrameError) →
     ((u : Registers × Bool) → (x : Result (Registers × Bool) FrameError) × Undone m is b u x) → (x : Result (Registers × Bool) FrameError) × Then e (Undone m is b) x

@@ -1,7 +1,6 @@
 -- Memory in several pieces.
-use Rattle.std.proofs.Common.{◌≡◌, ℕ, zero, suc, ◌+◌, ◌≤◌, List, [], ◌∷◌, ◌++◌, Option, Some, None, inl, inr, refl, subst, arith, add-one}
-use Rattle.std.proofs.lemmas.Bool.{cases_lt}
-use Rattle.pe_frame.specs.MemoryPieces.{known_bytes}
+use Rattle.std.proofs.Common.{◌≡◌, ℕ, zero, suc, ◌+◌, ◌≤◌, List, ◌∷◌, ◌++◌, Option, Some, None, inl, inr, refl, subst, arith, add-one, []}
+use Rattle.pe_frame.proofs.Cited.{cases_lt, known_bytes}
 
 module _ (byte : ℕ → Option ℕ) (a : ℕ) where
   -- a byte more

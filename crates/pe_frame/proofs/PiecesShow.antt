@@ -1,27 +1,15 @@
 -- Memory in pieces shows what a machine's memory has.
-use Rattle.std.proofs.Common.{◌≡◌, ℕ, zero, suc, ◌+◌, ◌-◌, ◌^◌, ◌<◌, ◌≤◌, ◌⊎◌, inl, inr, Bool, true, false, ◌&&◌, ◌||◌, nat_le, List, [], ◌∷◌, get_or, Option, Some, None, refl, ap, subst, sym, ◌∙◌, arith, add-one}
-use Rattle.std.specs.List.{AllByRecursion, find, list_any}
-use Rattle.std.specs.Option.{option_map}
-use Rattle.std.proofs.lemmas.Bool.{cases_lt}
-use Rattle.std.proofs.lemmas.Bool.Decides.{nat_tests}
-use Rattle.pe_core.specs.Bytes.{holds}
-use Rattle.pe_core.specs.Rows.{each}
-use Rattle.pe_core.proofs.EntryItems.{get_or-each}
-use Rattle.pe_frame.specs.Machine.{loaded}
-use Rattle.pe_frame.specs.Memory.{stack_word}
-use Rattle.pe_frame.specs.MemoryPieces.{ArePiecesOf, byte_in, has_byte, have_byte, known_bytes, known_word, piece_size, pieces_word}
-use Rattle.pe_frame.specs.declared.memory.Stack.{Stack}
+use Rattle.std.proofs.Common.{◌≡◌, ℕ, zero, suc, ◌+◌, ◌-◌, ◌^◌, ◌<◌, ◌≤◌, ◌⊎◌, inl, inr, Bool, true, false, ◌&&◌, ◌||◌, nat_le, List, ◌∷◌, get_or, Option, Some, None, refl, ap, subst, sym, ◌∙◌, arith, add-one, []}
+use Rattle.pe_frame.proofs.Cited.{AllByRecursion, find, list_any, option_map, cases_lt, nat_tests, holds, each, get_or-each, loaded}
+use Rattle.pe_frame.proofs.Cited.{stack_word, ArePiecesOf, byte_in, has_byte, have_byte, known_bytes, known_word, piece_size, pieces_word}
+use Rattle.pe_frame.proofs.Cited.{Stack, ends_before, has_it, is_within, starts_after}
 use Rattle.pe_frame.proofs.Begun.{number_shown, word_shown}
-use Rattle.pe_lookup.proofs.Lookups.{ends_before, has_it, is_within, starts_after}
 use Rattle.pe_frame.proofs.Pieces.{byte_missing, still_unknown}
 
 -- ---- a byte
 
 byte_here : (memory : ℕ → ℕ) (b : ℕ) (s : Stack) → ((i : ℕ) → i < piece_size s → get_or s.bytes.now i 0 ≡ memory (s.start + i)) → has_byte b s ≡ true → get_or s.bytes.now (b - s.start) 0 ≡ memory b
-byte_here memory b s shows has =
-    let within = is_within s.start (piece_size s) b has in
-    let same : s.start + (b - s.start) ≡ b = omega (arith, within.0) in
-    shows (b - s.start) (omega (arith, within.0, within.1)) ∙ ap memory same
+byte_here memory b s shows has = grind (arith, is_within)
 
 module _ {X : Type 0} (Shows : X → Type 0) (has : X → Bool) (value : X → ℕ) (v : ℕ) where
   abbrev pub HasValue : Type 0
@@ -63,28 +51,14 @@ word_of_pieces pieces a memory shows one fits =
 
 -- ---- one piece
 
-byte_unknown : (s : Stack) (b : ℕ) → has_byte b s ≡ false → byte_in (s ∷ []) b ≡ None
-byte_unknown s b has = rw has refl
-
-last_unknown : (byte : ℕ → Option ℕ) (a n : ℕ) (before : Option (List ℕ)) → known_bytes byte a n ≡ before → byte (a + n) ≡ None → known_bytes byte a (n + 1) ≡ None
-last_unknown byte a n None known none = rw (add-one n, known) refl
-last_unknown byte a n (Some before) known none = byte_missing byte a n before known none
-
 none_past : (pieces : List Stack) (a : ℕ) → 2 ^ 64 < a + 8 → pieces_word pieces a ≡ None
 none_past pieces a past = let test : nat_le (a + 8) (2 ^ 64) ≡ false = grind (arith, nat_tests) in rw test refl
 
 word_unknown : (s : Stack) (a i : ℕ) → i < 8 → has_byte (a + i) s ≡ false → pieces_word (s ∷ []) a ≡ None
-word_unknown s a i small has =
-    let part = last_unknown (byte_in (s ∷ [])) a i (known_bytes (byte_in (s ∷ [])) a i) refl (byte_unknown s (a + i) has) in
-    let whole : known_bytes (byte_in (s ∷ [])) a 8 ≡ None = still_unknown (byte_in (s ∷ [])) a (i + 1) 8 (omega (arith, small)) part in
-    elim (cases_lt (2 ^ 64) (a + 8)) [
-      | inl past ↦ none_past (s ∷ []) a past
-      | inr fits ↦ let test : nat_le (a + 8) (2 ^ 64) ≡ true = grind (arith, nat_tests) in rw (test, whole) refl
-    ]
+word_unknown s a i small has = grind (arith, add-one, byte_missing, still_unknown, cases_lt, none_past, nat_le, nat_tests)
 
 has_not : (s : Stack) (b : ℕ) → (b < s.start) ⊎ (s.start + piece_size s ≤ b) → has_byte b s ≡ false
-has_not s b (inl h) = starts_after s.start (piece_size s) b h
-has_not s b (inr h) = ends_before s.start (piece_size s) b h
+has_not s b h2 = grind (arith, starts_after, ends_before)
 
 stack_unknown : (s : Stack) (a : ℕ) → (nat_le s.start a && nat_le (a + 8) (2 ^ 64) && holds s.bytes.now (a - s.start) 8) ≡ false → stack_word s.bytes.now s.start a ≡ None
 stack_unknown s a test = rw test refl

@@ -1,37 +1,20 @@
 -- What is left of an epilog leads to the caller.
-use Rattle.pe_core.specs.Refusals.{◌>>=◌}
-use Rattle.std.specs.Prelude.{if◌then◌else◌, IsSome}
-use Rattle.std.proofs.Common.{◌≡◌, ◌≢◌, ℕ, ◌+◌, ◌-◌, ◌%◌, ◌/◌, ◌^◌, ◌<◌, ◌≤◌, ◌⊎◌, ◌||◌, inl, inr, Bool, true, false, ltb, eqb, List, [], ◌∷◌, ◌++◌, length, get_or, set, Option, Some, None, Result, Ok, Err, refl, ap, sym, ◌∙◌, subst, arith}
-use Rattle.std.specs.List.{AllByRecursion}
-use Rattle.std.proofs.lemmas.Bool.{lt-ltb}
-use Rattle.std.proofs.lemmas.Bool.Decides.{nat_tests}
-use Rattle.std.proofs.lemmas.List.{get_or-set_other, get_or-set_same, length-set, set-get_or, set-set}
-use Rattle.pe_unwind.specs.declared.register.Register.{Register}
-use Rattle.pe_unwind.specs.declared.unwind_code.UnwindOperation.{UnwindOperation}
-use Rattle.pe_unwind.specs.declared.unwind_code.UnwindOperation.TheVariants.{PushNonVolatile, Alloc, SetFPRegister, SaveNonVolatile, SaveXMM, Epilog, SaveXMM128, PushMachineFrame, Noop}
-use Rattle.pe_frame.specs.declared.epilog.Instruction.{Instruction}
-use Rattle.pe_frame.specs.declared.epilog.Instruction.TheVariants.{Add, Lea, Pop, Return, Jump, JumpByOperand}
-use Rattle.pe_frame.specs.declared.error.FrameError.{FrameError}
-use Rattle.pe_frame.specs.declared.error.FrameError.TheVariants.{Address, Operation, NotRising}
-use Rattle.pe_frame.specs.declared.registers.Registers.{Registers}
-use Rattle.pe_frame.specs.Undoing.{FrameRegister, bytes_above, stack_pointer, put_register, put_xmm, put_rip, number, above, require_integer, raised, undone, undone_all, popped, any_sets_frame_register, is_interrupted, ran}
-use Rattle.pe_unwind.specs.UnwindRecord.{UnwindInfoView}
-use Rattle.pe_frame.specs.Steps.{frame_register_in, rising}
-use Rattle.pe_frame.specs.Machine.{Machine, machine_stack_pointer, base, run, IsProlog, PushesLate, KeepsStackPointer, saves, saves_xmm, chosen}
-use Rattle.pe_frame.specs.Frames.{Part, infos, left, registers_of, SavesOrKeeps, AreFrames, restored, restored_xmm, IsCaller}
-use Rattle.pe_frame.specs.Epilogs.{moved, epilog_at, executed, executed_all, StepsFrom, StepsWithCode}
-use Rattle.pe_frame.specs.EpilogFrames.{Exits, Pops, moves, allocated, pushes, LeadsBack, Leads, Frees, FreesAndPops, AreRestored, IsBack, IsEpilogOfParts, AreReady}
+use Rattle.std.proofs.Common.{◌≡◌, ◌≢◌, ℕ, ◌+◌, ◌-◌, ◌%◌, ◌/◌, ◌^◌, ◌<◌, ◌≤◌, ◌⊎◌, ◌||◌, inl, inr, Bool, true, false, eqb, List, ◌∷◌, ◌++◌, length, get_or, set, Option, Some, None, Result, Ok, Err, refl, ap, sym, ◌∙◌, subst, arith, rules, []}
+use Rattle.pe_frame.proofs.Cited.{◌>>=◌, if◌then◌else◌, IsSome, AllByRecursion, lt-ltb, nat_tests, get_or-set_other, get_or-set_same}
+use Rattle.pe_frame.proofs.Cited.{length-set, set-get_or, set-set, Register, UnwindOperation, PushNonVolatile, Alloc, SetFPRegister}
+use Rattle.pe_frame.proofs.Cited.{SaveNonVolatile, SaveXMM, Epilog, SaveXMM128, PushMachineFrame, Noop, Instruction, Add, Lea, Pop}
+use Rattle.pe_frame.proofs.Cited.{FrameError, Registers, FrameRegister, bytes_above, stack_pointer, put_register, put_xmm, number, raised}
+use Rattle.pe_frame.proofs.Cited.{undone, undone_all, popped, any_sets_frame_register, is_interrupted, ran, UnwindInfoView}
+use Rattle.pe_frame.proofs.Cited.{frame_register_in, rising, Machine, machine_stack_pointer, base, run, IsProlog, PushesLate}
+use Rattle.pe_frame.proofs.Cited.{KeepsStackPointer, saves, saves_xmm, chosen, Part, infos, left, registers_of, SavesOrKeeps, AreFrames}
+use Rattle.pe_frame.proofs.Cited.{restored, restored_xmm, IsCaller, moved, epilog_at, executed, executed_all, StepsFrom, StepsWithCode}
+use Rattle.pe_frame.proofs.Cited.{Exits, Pops, moves, allocated, pushes, LeadsBack, Leads, Frees, FreesAndPops, AreRestored, IsBack}
+use Rattle.pe_frame.proofs.Cited.{IsEpilogOfParts, AreReady}
 use Rattle.pe_frame.proofs.Runs.{count, entered, pointer_set, pointer_other, sinks}
 use Rattle.pe_frame.proofs.Saved.{Holds, holds, known}
 use Rattle.pe_frame.proofs.Frames.{entry_of, frames_also, called}
 use Rattle.pe_frame.proofs.Tails.{then_ok, executed_append}
 use Rattle.pe_frame.proofs.Undone as undone
-
-exit_pops : (m : ℕ → Option ℕ) (i : Instruction) (g : Registers) → Exits i → executed m i g ≡ popped m g
-exit_pops m (Return n) g e = rw e refl
-exit_pops m (Jump a) g e = refl
-exit_pops m JumpByOperand g e = refl
-exit_pops m other g e = absurd e
 
 -- what a step that succeeded was
 pub record Went {A B : Type 0} (x : Result A FrameError) (f : A → Result B FrameError) (y : B) : Type 0 where
@@ -40,8 +23,7 @@ pub record Went {A B : Type 0} (x : Result A FrameError) (f : A → Result B Fra
   pub next : f value ≡ Ok y
 
 pub went : {A B : Type 0} (x : Result A FrameError) (f : A → Result B FrameError) (y : B) → (x >>= f) ≡ Ok y → Went x f y
-went (Ok v) f y e = record { value = v; first = refl; next = e }
-went (Err d) f y e = cc
+went x f y e = grind arith
 
 -- registers that are so far above others
 pub record IsAbove (n : ℕ) (g v : Registers) : Type 0 where
@@ -49,37 +31,16 @@ pub record IsAbove (n : ℕ) (g v : Registers) : Type 0 where
   pub pointer_is : stack_pointer v ≡ stack_pointer g + n
 
 picked : (b : Bool) (x y : ℕ) (d : FrameError) → (if b then Ok x else Err d) ≡ Ok y → y ≡ x
-picked true x y d e = cc
-picked false x y d e = cc
+picked b x y d e = grind arith
 
 raised_rose : (n : ℕ) (g v : Registers) → length g.general ≡ 16 → raised n g ≡ Ok v → IsAbove n g v
-raised_rose n g v len e =
-    let w = went (above (stack_pointer g) n) (λ a. Ok (put_register g 4 a)) v e in
-    let same : put_register g 4 w.value ≡ v = cc in
-    let sum : w.value ≡ stack_pointer g + n = picked (ltb (stack_pointer g + n) (2 ^ 64)) (stack_pointer g + n) w.value (Address (stack_pointer g)) w.first in
-    record {
-      count = ap (λ (x : Registers). length x.general) (sym same) ∙ (length-set g.general 4 w.value ∙ len);
-      pointer_is = ap stack_pointer (sym same) ∙ (pointer_set g.general w.value len ∙ sum);
-    }
+raised_rose n g v len e = grind (arith, went, picked, length-set, pointer_set)
 
 push_rose : (m : ℕ → Option ℕ) (b : ℕ) (r : Register) (g v : Registers) → r.0 ≢ 4 → length g.general ≡ 16 → undone m b (PushNonVolatile r) g ≡ Ok v → IsAbove 8 g v
-push_rose m b r g v other len e =
-    let w = went (require_integer (PushNonVolatile r) r.0) (λ i. number m (stack_pointer g) >>= λ k. raised 8 (put_register g i k)) v e in
-    let index : w.value ≡ r.0 = picked (ltb r.0 16) r.0 w.value (Operation (PushNonVolatile r)) w.first in
-    let x = went (number m (stack_pointer g)) (λ k. raised 8 (put_register g w.value k)) v w.next in
-    let rose = raised_rose 8 (put_register g w.value x.value) v (length-set g.general w.value x.value ∙ len) x.next in
-    record {
-      count = rose.count;
-      pointer_is = rose.pointer_is ∙ ap (λ (k : ℕ). k + 8) (pointer_other g.general w.value x.value (λ q. other (sym index ∙ q)));
-    }
+push_rose m b r g v other len e = search (rules, arith, went, picked, raised_rose, length-set, pointer_other)
 
 pub popped_rose : (m : ℕ → Option ℕ) (g u : Registers) → length g.general ≡ 16 → popped m g ≡ Ok u → IsAbove 8 g u
-popped_rose m g u len e =
-    let w = went (number m (stack_pointer g)) (λ a. raised 8 g >>= λ v. Ok (put_rip v a)) u e in
-    let x = went (raised 8 g) (λ v. Ok (put_rip v w.value)) u w.next in
-    let rose = raised_rose 8 g x.value len x.first in
-    let same : put_rip x.value w.value ≡ u = cc in
-    record { count = ap (λ (y : Registers). length y.general) (sym same) ∙ rose.count; pointer_is = ap stack_pointer (sym same) ∙ rose.pointer_is }
+popped_rose m g u len e = search (rules, arith, went, raised_rose)
 
 -- what comes to the same registers came to them by the same way
 all_of : (m : ℕ → Option ℕ) (is js : List Instruction) (g u : Registers) → is ≡ js → executed_all m is g ≡ Ok u → executed_all m js g ≡ Ok u
@@ -102,29 +63,15 @@ Reaches b p (SetFPRegister ∷ before) = (p ≡ b) × Reaches b b before
 Reaches b p (other ∷ before) = Unit {0}
 
 exit_alone : (m : ℕ → Option ℕ) (is : List Instruction) (g : Registers) → Pops [] is → executed_all m is g ≡ popped m g
-exit_alone m is g p = rw p.2 (then_ok (executed m p.0 g) ∙ exit_pops m p.0 g p.1)
+exit_alone m is g p = grind (arith, then_ok)
 
 -- where undoing the pushes and popping the return address comes to the caller, pops and the exit do
 pops_come : (m : ℕ → Option ℕ) (b : ℕ) (codes : List UnwindOperation) (is : List Instruction) (g e u : Registers) → Spares codes → Reaches b (stack_pointer g) codes → length g.general ≡ 16 →
     undone_all m b codes g ≡ Ok e → popped m e ≡ Ok u → Pops codes is → executed_all m is g ≡ Ok u
-pops_come m b [] is g e u spares reaches len un up p =
-    let same : g ≡ e = cc in
-    exit_alone m is g p ∙ (ap (λ (x : Registers). popped m x) same ∙ up)
-pops_come m b (PushNonVolatile r ∷ before) is g e u spares reaches len un up p =
-    let w = went (undone m b (PushNonVolatile r) g) (undone_all m b before) e un in
-    let rose = push_rose m b r g w.value spares.0 len w.first in
-    let on : Reaches b (stack_pointer w.value) before = subst (λ (k : ℕ). Reaches b k before) (sym rose.pointer_is) reaches in
-    let rest = pops_come m b before p.0 w.value e u spares.1 on rose.count w.next up p.2 in
-    rw p.1 (ap (λ (x : Result Registers FrameError). x >>= executed_all m p.0) w.first ∙ rest)
-pops_come m b (SetFPRegister ∷ before) is g e u spares reaches len un up p =
-    let same : put_register g 4 b ≡ g = ap (λ (k : ℕ). put_register g 4 k) (sym reaches.0) ∙ put_same g in
-    let here : undone_all m b before g ≡ Ok e = ap (λ (x : Registers). undone_all m b before x) (sym same) ∙ un in
-    let on : Reaches b (stack_pointer g) before = subst (λ (k : ℕ). Reaches b k before) (sym reaches.0) reaches.1 in
-    pops_come m b before is g e u spares on len here up p
+pops_come m b [] is g e u spares reaches len un up p = grind (arith, exit_alone)
+pops_come m b (PushNonVolatile r ∷ before) is g e u spares reaches len un up p = search (rules, arith, went, push_rose, pops_come m b before)
+pops_come m b (SetFPRegister ∷ before) is g e u spares reaches len un up p = grind (arith, put_same, pops_come m b before is g e u spares)
 pops_come m b (other ∷ before) is g e u spares reaches len un up p = absurd p
-
-put_put : (g : Registers) (a b : ℕ) → put_register (put_register g 4 a) 4 b ≡ put_register g 4 b
-put_put g a b = ap (λ (xs : List ℕ). record { general = xs; xmm = g.xmm; rip = g.rip }) (set-set g.general 4 a b)
 
 -- the stack pointer before the last push, by the base of the frame and the stack pointer
 abbrev trail : ℕ → ℕ → List UnwindOperation → ℕ
@@ -141,10 +88,7 @@ trails_here m b codes g e h = ap (λ (x : Registers). undone_all m b codes x) (p
 
 trails_next : (m : ℕ → Option ℕ) (b : ℕ) (before : List UnwindOperation) (g v e : Registers) (p : ℕ) → put_register g 4 p ≡ v → stack_pointer v ≡ p → Trails m b before v e →
     undone_all m b (pushes before) (put_register g 4 (trail b p before)) ≡ Ok e
-trails_next m b before g v e p same at t =
-    let put : put_register v 4 (trail b p before) ≡ put_register g 4 (trail b p before) =
-    ap (λ (x : Registers). put_register x 4 (trail b p before)) (sym same) ∙ put_put g p (trail b p before) in
-    ap (λ (x : Registers). undone_all m b (pushes before) x) (sym put) ∙ (ap (λ (k : ℕ). undone_all m b (pushes before) (put_register v 4 (trail b k before))) (sym at) ∙ t)
+trails_next m b before g v e p same at t = grind (arith, set-set)
 
 -- what freeing stack did
 record IsRaised (n : ℕ) (g v : Registers) : Type 0 where
@@ -153,30 +97,15 @@ record IsRaised (n : ℕ) (g v : Registers) : Type 0 where
   pub pointer_is : stack_pointer v ≡ stack_pointer g + n
 
 raised_is : (n : ℕ) (g v : Registers) → length g.general ≡ 16 → raised n g ≡ Ok v → IsRaised n g v
-raised_is n g v len e =
-    let w = went (above (stack_pointer g) n) (λ a. Ok (put_register g 4 a)) v e in
-    let sum : w.value ≡ stack_pointer g + n = picked (ltb (stack_pointer g + n) (2 ^ 64)) (stack_pointer g + n) w.value (Address (stack_pointer g)) w.first in
-    let put : put_register g 4 w.value ≡ v = cc in
-    let rose = raised_rose n g v len e in
-    record { same = ap (λ (k : ℕ). put_register g 4 k) (sym sum) ∙ put; count = rose.count; pointer_is = rose.pointer_is }
+raised_is n g v len e = search (rules, arith, went, picked, raised_rose)
 
 trails : (m : ℕ → Option ℕ) (b : ℕ) (codes : List UnwindOperation) (g e : Registers) → length g.general ≡ 16 → undone_all m b codes g ≡ Ok e → Trails m b codes g e
 trails m b [] g e len h = trails_here m b [] g e h
-trails m b (Alloc n ∷ before) g e len h =
-    let w = went (raised n g) (undone_all m b before) e h in
-    let r = raised_is n g w.value len w.first in
-    trails_next m b before g w.value e (stack_pointer g + n) r.same r.pointer_is (trails m b before w.value e r.count w.next)
+trails m b (Alloc n ∷ before) g e len h = grind (arith, went, raised_is, trails_next, trails m b before (went (raised n g) (undone_all m b before) e h).value e)
 trails m b (SetFPRegister ∷ before) g e len h =
     let v : Registers = put_register g 4 b in
-    let count : length v.general ≡ 16 = length-set g.general 4 b ∙ len in
-    trails_next m b before g v e b refl (pointer_set g.general b len) (trails m b before v e count h)
-trails m b (PushNonVolatile r ∷ before) g e len h = trails_here m b (PushNonVolatile r ∷ before) g e h
-trails m b (SaveNonVolatile r o ∷ before) g e len h = trails_here m b (SaveNonVolatile r o ∷ before) g e h
-trails m b (SaveXMM r o ∷ before) g e len h = trails_here m b (SaveXMM r o ∷ before) g e h
-trails m b (Epilog x y ∷ before) g e len h = trails_here m b (Epilog x y ∷ before) g e h
-trails m b (SaveXMM128 r o ∷ before) g e len h = trails_here m b (SaveXMM128 r o ∷ before) g e h
-trails m b (PushMachineFrame x ∷ before) g e len h = trails_here m b (PushMachineFrame x ∷ before) g e h
-trails m b (Noop ∷ before) g e len h = trails_here m b (Noop ∷ before) g e h
+    trails_next m b before g v e b refl (pointer_set g.general b len) (trails m b before v e (length-set g.general 4 b ∙ len) h)
+trails m b (other ∷ before) g e len h = trails_here m b (other ∷ before) g e h
 
 -- with a frame register: the stack pointer is where the prolog left it, and this is the base
 abbrev IsExact : Option ℕ → ℕ → ℕ → ℕ → Type 0
@@ -184,27 +113,16 @@ IsExact None b p t = Unit {0}
 IsExact (Some c) b p t = (p ≡ t) × (c ≡ b)
 
 exact_none : (frame : Option ℕ) (b p t : ℕ) → frame ≡ None → IsExact frame b p t
-exact_none None b p t e = tt
-exact_none (Some c) b p t e = cc
+exact_none frame b p t e = grind arith
 
 exact_alloc : (frame : Option ℕ) (b p n t u : ℕ) → u ≡ t - n → n ≤ t → IsExact frame b p u → IsExact frame b (p + n) t
-exact_alloc None b p n t u e small h = tt
-exact_alloc (Some c) b p n t u e small h = (let at : p ≡ u = h.0 in omega arith, h.1)
+exact_alloc frame b p n t u e small h = grind arith
 
 -- from there on the stack pointer moves by what was allocated
 trail_sum : (c : Bool) (f : FrameRegister) (codes : List UnwindOperation) (s : Machine) (b p : ℕ) → IsProlog c f codes s → IsExact (run f codes s).frame_base b p (machine_stack_pointer (run f codes s)) → trail b p (moves codes) ≡ p + allocated (moves codes)
 trail_sum c f [] s b p q h = omega arith
-trail_sum c f (Alloc n ∷ before) s b p q h =
-    let t = machine_stack_pointer (run f before s) in
-    let set_top : machine_stack_pointer (run f (Alloc n ∷ before) s) ≡ t - n = pointer_set (run f before s).general (t - n) (count c f before s q.1) in
-    let next = trail_sum c f before s b (p + n) q.1 (exact_alloc (run f before s).frame_base b p n t (machine_stack_pointer (run f (Alloc n ∷ before) s)) set_top q.0.1 h) in
-    omega (arith, next)
-trail_sum c f (SetFPRegister ∷ before) s b p q h =
-    let next = trail_sum c f before s b b q.1 (exact_none (run f before s).frame_base b b (machine_stack_pointer (run f before s)) q.0.1) in
-    let t = pointer_other (run f before s).general f.register (machine_stack_pointer (run f before s) + f.offset) q.0.0.savable.other in
-    let at : p ≡ machine_stack_pointer (run f (SetFPRegister ∷ before) s) = h.0 in
-    let is : machine_stack_pointer (run f before s) ≡ b = h.1 in
-    omega (arith, next)
+trail_sum c f (Alloc n ∷ before) s b p q h = grind (arith, pointer_set, count, exact_alloc, trail_sum c f before s b (p + n))
+trail_sum c f (SetFPRegister ∷ before) s b p q h = grind (arith, exact_none, pointer_other, trail_sum c f before s b b)
 trail_sum c f (PushNonVolatile r ∷ before) s b p q h = omega arith
 trail_sum c f (SaveXMM r o ∷ before) s b p q h = absurd q.0
 trail_sum c f (PushMachineFrame x ∷ before) s b p q h = omega arith
@@ -213,13 +131,8 @@ trail_sum c f (other ∷ before) s b p q h = trail_sum c f before s b p q.1 h
 -- from the last push on the pops come to the base of the frame
 reaches_pops : (c : Bool) (f : FrameRegister) (codes : List UnwindOperation) (s : Machine) (b p : ℕ) → IsProlog c f codes s → IsExact (run f codes s).frame_base b p (machine_stack_pointer (run f codes s)) → Reaches b p (moves codes)
 reaches_pops c f [] s b p q h = tt
-reaches_pops c f (PushNonVolatile r ∷ before) s b p q h =
-    let t = machine_stack_pointer (run f before s) in
-    let set_top : machine_stack_pointer (run f (PushNonVolatile r ∷ before) s) ≡ t - 8 = pointer_set (run f before s).general (t - 8) (count c f before s q.1) in
-    reaches_pops c f before s b (p + 8) q.1 (exact_alloc (run f before s).frame_base b p 8 t (machine_stack_pointer (run f (PushNonVolatile r ∷ before) s)) set_top q.0.3 h)
-reaches_pops c f (SetFPRegister ∷ before) s b p q h =
-    let t : machine_stack_pointer (run f (SetFPRegister ∷ before) s) ≡ machine_stack_pointer (run f before s) = pointer_other (run f before s).general f.register (machine_stack_pointer (run f before s) + f.offset) q.0.0.savable.other in
-    (h.0 ∙ (t ∙ h.1), reaches_pops c f before s b b q.1 (exact_none (run f before s).frame_base b b (machine_stack_pointer (run f before s)) q.0.1))
+reaches_pops c f (PushNonVolatile r ∷ before) s b p q h = grind (arith, pointer_set, count, exact_alloc, reaches_pops c f before s b (p + 8))
+reaches_pops c f (SetFPRegister ∷ before) s b p q h = grind (arith, pointer_other, exact_none, reaches_pops c f before s b b)
 reaches_pops c f (Alloc n ∷ before) s b p q h = tt
 reaches_pops c f (SaveXMM r o ∷ before) s b p q h = absurd q.0
 reaches_pops c f (PushMachineFrame x ∷ before) s b p q h = tt
@@ -228,10 +141,7 @@ reaches_pops c f (other ∷ before) s b p q h = reaches_pops c f before s b p q.
 -- so they do from where what was allocated is freed
 reaches_of : (c : Bool) (f : FrameRegister) (codes : List UnwindOperation) (s : Machine) (b p : ℕ) → IsProlog c f codes s → IsExact (run f codes s).frame_base b p (machine_stack_pointer (run f codes s)) → Reaches b (trail b p (moves codes)) (pushes (moves codes))
 reaches_of c f [] s b p q h = tt
-reaches_of c f (Alloc n ∷ before) s b p q h =
-    let t = machine_stack_pointer (run f before s) in
-    let set_top : machine_stack_pointer (run f (Alloc n ∷ before) s) ≡ t - n = pointer_set (run f before s).general (t - n) (count c f before s q.1) in
-    reaches_of c f before s b (p + n) q.1 (exact_alloc (run f before s).frame_base b p n t (machine_stack_pointer (run f (Alloc n ∷ before) s)) set_top q.0.1 h)
+reaches_of c f (Alloc n ∷ before) s b p q h = grind (arith, pointer_set, count, exact_alloc, reaches_of c f before s b (p + n))
 reaches_of c f (SetFPRegister ∷ before) s b p q h = reaches_of c f before s b b q.1 (exact_none (run f before s).frame_base b b (machine_stack_pointer (run f before s)) q.0.1)
 reaches_of c f (PushNonVolatile r ∷ before) s b p q h = reaches_pops c f (PushNonVolatile r ∷ before) s b p q h
 reaches_of c f (SaveXMM r o ∷ before) s b p q h = absurd q.0
@@ -254,12 +164,8 @@ led_here b o d p size at h small = omega arith
 -- it does so back over registers that were pushed since it was set
 led_back : (f : FrameRegister) (codes : List UnwindOperation) (d b p size : ℕ) → LeadsBack f d size codes → Reaches b (p + size) codes → p < 2 ^ 64 → moved (b + f.offset) d ≡ p
 led_back f [] d b p size h reaches small = absurd h
-led_back f (PushNonVolatile r ∷ before) d b p size h reaches small =
-    let sum : p + size + 8 ≡ p + (size + 8) = omega arith in
-    led_back f before d b p (size + 8) h (subst (λ (k : ℕ). Reaches b k before) sum reaches) small
-led_back f (SetFPRegister ∷ before) d b p size h reaches small =
-    let at : p + size ≡ b = reaches.0 in
-    led_here b f.offset d p size at h small
+led_back f (PushNonVolatile r ∷ before) d b p size h reaches small = grind (arith, led_back f before d b p (size + 8) h)
+led_back f (SetFPRegister ∷ before) d b p size h reaches small = grind (arith, led_here)
 led_back f (other ∷ before) d b p size h reaches small = absurd h
 
 -- such a prolog set a frame register
@@ -275,15 +181,8 @@ set_before c f (other ∷ before) s d size q h = set_before c f before s d size 
 led_by : (c : Bool) (f : FrameRegister) (codes : List UnwindOperation) (s : Machine) (d b p : ℕ) → IsProlog c f codes s → Leads f d (moves codes) → (PushesLate codes → IsExact (run f codes s).frame_base b p (machine_stack_pointer (run f codes s))) →
     IsLed f d b p (moves codes) (run f codes s).frame_base
 led_by c f [] s d b p q h exact = absurd h
-led_by c f (Alloc n ∷ before) s d b p q h exact =
-    let t = machine_stack_pointer (run f before s) in
-    let set_top : machine_stack_pointer (run f (Alloc n ∷ before) s) ≡ t - n = pointer_set (run f before s).general (t - n) (count c f before s q.1) in
-    let next = led_by c f before s d b (p + n) q.1 h (λ late. exact_alloc (run f before s).frame_base b p n t (machine_stack_pointer (run f (Alloc n ∷ before) s)) set_top q.0.1 (exact late)) in
-    record { framed = next.framed; reaches = next.reaches; is = next.is }
-led_by c f (SetFPRegister ∷ before) s d b p q h exact =
-    let none = exact_none (run f before s).frame_base b b (machine_stack_pointer (run f before s)) q.0.1 in
-    let sum = trail_sum c f before s b b q.1 none in
-    record { framed = refl; reaches = reaches_of c f before s b b q.1 none; is = λ small. led b f.offset d (allocated (moves before)) h (omega (arith, sum)) ∙ sym sum }
+led_by c f (Alloc n ∷ before) s d b p q h exact = grind (arith, pointer_set, count, exact_alloc, led_by c f before s d b (p + n))
+led_by c f (SetFPRegister ∷ before) s d b p q h exact = grind (arith, exact_none, trail_sum, reaches_of, led)
 led_by c f (PushNonVolatile r ∷ before) s d b p q h exact =
     let reaches = reaches_pops c f (PushNonVolatile r ∷ before) s b p q (exact tt) in
     record { framed = set_before c f before s d 8 q.1 h; reaches = reaches; is = led_back f (moves before) d b p 8 h reaches }
@@ -294,24 +193,15 @@ led_by c f (other ∷ before) s d b p q h exact = led_by c f before s d b p q.1 
 -- writing the stack pointer changes no register that was saved
 restored_moved : (c : Bool) (f : FrameRegister) (codes : List UnwindOperation) (s : Machine) (g : Registers) (x : ℕ) → IsProlog c f codes s → AreRestored codes s g → AreRestored codes s (put_register g 4 x)
 restored_moved c f [] s g x p h = tt
-restored_moved c f (SaveNonVolatile r o ∷ before) s g x p h = (get_or-set_other g.general 4 r.0 x 0 p.0.0.other ∙ h.0, restored_moved c f before s g x p.1 h.1)
-restored_moved c f (SaveXMM r o ∷ before) s g x p h = absurd p.0
-restored_moved c f (SaveXMM128 r o ∷ before) s g x p h = (h.0, restored_moved c f before s g x p.1 h.1)
-restored_moved c f (other ∷ before) s g x p h = restored_moved c f before s g x p.1 h
+restored_moved c f (other ∷ before) s g x p h = grind (arith, get_or-set_other, restored_moved c f before s g x)
 
 same_or_other : (r q v : ℕ) (b : Bool) (xs old : List ℕ) → eqb r q ≡ b → length xs ≡ 16 → q < 16 → v ≡ get_or old q 0 → get_or xs r 0 ≡ get_or old r 0 → get_or (set xs q v) r 0 ≡ get_or old r 0
-same_or_other r q v true xs old e len small is h =
-    let same : r ≡ q = grind (arith, nat_tests) in
-    ap (λ (k : ℕ). get_or (set xs q v) k 0) same ∙ (get_or-set_same xs q v 0 (omega arith) ∙ (is ∙ ap (λ (k : ℕ). get_or old k 0) (sym same)))
-same_or_other r q v false xs old e len small is h =
-    let other : r ≢ q = grind (arith, nat_tests) in
-    get_or-set_other xs q r v 0 other ∙ h
+same_or_other r q v b xs old e len small is h = grind (arith, nat_tests, get_or, get_or-set_same, get_or-set_other)
 
 -- nor does a register that has its value from the entry
 restored_put : (codes : List UnwindOperation) (s : Machine) (g : Registers) (q : ℕ) → length g.general ≡ 16 → q < 16 → AreRestored codes s g → AreRestored codes s (put_register g q (get_or s.general q 0))
 restored_put [] s g q len small h = tt
-restored_put (SaveNonVolatile r o ∷ before) s g q len small h =
-    (same_or_other r.0 q (get_or s.general q 0) (eqb r.0 q) g.general s.general refl len small refl h.0, restored_put before s g q len small h.1)
+restored_put (SaveNonVolatile r o ∷ before) s g q len small h = grind (arith, same_or_other, get_or, restored_put before s g q len small)
 restored_put (SaveXMM128 r o ∷ before) s g q len small h = (h.0, restored_put before s g q len small h.1)
 restored_put (other ∷ before) s g q len small h = restored_put before s g q len small h
 
@@ -324,9 +214,7 @@ pops_pushes (other ∷ before) is p = absurd p
 
 -- a step that changes nothing can be left out
 stays_then : (m : ℕ → Option ℕ) (b : ℕ) (o : UnwindOperation) (before : List UnwindOperation) (g v e : Registers) → undone m b o g ≡ Ok v → v ≡ g → undone_all m b (o ∷ before) g ≡ Ok e → undone_all m b before g ≡ Ok e
-stays_then m b o before g v e step same h =
-    let stays : undone m b o g ≡ Ok g = step ∙ ap Ok same in
-    ap (λ (x : Result Registers FrameError). x >>= undone_all m b before) (sym stays) ∙ h
+stays_then m b o before g v e step same h = cc
 
 -- where saved registers are restored, undoing their saves changes nothing
 unsaved : (m : ℕ → Option ℕ) (b : ℕ) (c : Bool) (f : FrameRegister) (codes : List UnwindOperation) (s : Machine) (g e : Registers) (is : List Instruction) → IsProlog c f codes s → Holds (λ a v. m a ≡ Some v) c f codes s →
@@ -360,24 +248,9 @@ unsaved m b c f (Alloc n ∷ before) s g e is p k hb pt r q len h =
     let pt_next : undone.Points (run f before s).frame_base before t (stack_pointer w.value) = subst (λ (x : ℕ). undone.Points (run f before s).frame_base before t x) (sym a.pointer_is) (undone.points_raised (run f before s).frame_base before t (stack_pointer g) n p.0.1 here) in
     let rest = unsaved m b c f before s w.value e is p.1 k hb_next pt_next still q a.count w.next in
     ap (λ (x : Result Registers FrameError). x >>= undone_all m b (moves before)) w.first ∙ rest
-unsaved m b c f (SetFPRegister ∷ before) s g e is p k hb pt r q len h =
-    let hb_next = undone.base_none (run f before s).frame_base before (machine_stack_pointer (run f before s)) b p.0.1 (inr hb) in
-    let stack : stack_pointer (put_register g 4 b) ≡ machine_stack_pointer (run f before s) = pointer_set g.general b len ∙ sym hb in
-    let pt_next = undone.points_exact (run f before s).frame_base before (machine_stack_pointer (run f before s)) (stack_pointer (put_register g 4 b)) stack in
-    unsaved m b c f before s (put_register g 4 b) e is p.1 k hb_next pt_next (restored_moved c f before s g b p.1 r) q (length-set g.general 4 b ∙ len) h
-unsaved m b c f (SaveNonVolatile i o ∷ before) s g e is p k hb pt r q len h =
-    let t = machine_stack_pointer (run f before s) in
-    let v = get_or s.general i.0 0 in
-    let is_base : base (run f before s) ≡ b = undone.base_saved (run f before s).frame_base i o before t b hb in
-    let word : m (b + bytes_above o) ≡ Some v = ap (λ (x : ℕ). m (x + bytes_above o)) (sym is_base) ∙ k.0 in
-    let step = undone.load_ok m b i o g v p.0.0.number word (omega (arith, p.0.2)) in
-    let same : put_register g i.0 v ≡ g =
-    ap (λ (x : ℕ). put_register g i.0 x) (sym r.0) ∙ ap (λ (xs : List ℕ). record { general = xs; xmm = g.xmm; rip = g.rip }) (set-get_or g.general i.0 0) in
-    let hb_next = undone.base_saved_rest (run f before s).frame_base i o before t b hb in
-    unsaved m b c f before s g e is p.1 k.1 hb_next (undone.points_weaker (run f before s).frame_base (SaveNonVolatile i o ∷ before) before (machine_stack_pointer (run f before s)) (stack_pointer g) (λ z. z) pt) r.1 q len (stays_then m b (SaveNonVolatile i o) before g (put_register g i.0 v) e step same h)
+unsaved m b c f (SetFPRegister ∷ before) s g e is p k hb pt r q len h = grind (arith, undone.base_none, pointer_set, undone.points_exact, restored_moved, length-set, unsaved m b c f before s (put_register g 4 b) e is)
+unsaved m b c f (SaveNonVolatile i o ∷ before) s g e is p k hb pt r q len h = grind (arith, get_or, undone.base_saved, undone.load_ok, set-get_or, undone.base_saved_rest, undone.points_weaker, stays_then, unsaved m b c f before s g e is)
 unsaved m b c f (SaveXMM i o ∷ before) s g e is p k hb pt r q len h = absurd p.0
-unsaved m b c f (Epilog x y ∷ before) s g e is p k hb pt r q len h =
-    unsaved m b c f before s g e is p.1 k (undone.base_weaker (run f before s).frame_base (Epilog x y ∷ before) before (machine_stack_pointer (run f before s)) b (λ z. z) hb) (undone.points_weaker (run f before s).frame_base (Epilog x y ∷ before) before (machine_stack_pointer (run f before s)) (stack_pointer g) (λ z. z) pt) r q len h
 unsaved m b c f (SaveXMM128 i o ∷ before) s g e is p k hb pt r q len h =
     let t = machine_stack_pointer (run f before s) in
     let v = get_or s.xmm (i.0 - 17) 0 in
@@ -390,25 +263,20 @@ unsaved m b c f (SaveXMM128 i o ∷ before) s g e is p k hb pt r q len h =
     let hb_next = undone.base_wide_rest (run f before s).frame_base i o before t b hb in
     unsaved m b c f before s g e is p.1 k.1.1 hb_next (undone.points_weaker (run f before s).frame_base (SaveXMM128 i o ∷ before) before (machine_stack_pointer (run f before s)) (stack_pointer g) (λ z. z) pt) r.1 q len (stays_then m b (SaveXMM128 i o) before g (put_xmm g (i.0 - 17) v) e step same h)
 unsaved m b c f (PushMachineFrame x ∷ before) s g e is p k hb pt r q len h = absurd q
-unsaved m b c f (Noop ∷ before) s g e is p k hb pt r q len h =
-    unsaved m b c f before s g e is p.1 k (undone.base_weaker (run f before s).frame_base (Noop ∷ before) before (machine_stack_pointer (run f before s)) b (λ z. z) hb) (undone.points_weaker (run f before s).frame_base (Noop ∷ before) before (machine_stack_pointer (run f before s)) (stack_pointer g) (λ z. z) pt) r q len h
+unsaved m b c f (other ∷ before) s g e is p k hb pt r q len h = grind (arith, undone.base_weaker, undone.points_weaker, unsaved m b c f before s g e is)
 
 -- the frame register has its value from the prolog
 value_of : (c : Bool) (f : FrameRegister) (codes : List UnwindOperation) (s : Machine) (b : ℕ) (g : Registers) (frame : Option ℕ) → IsProlog c f codes s → (run f codes s).frame_base ≡ frame → IsSome frame →
     undone.HasBase frame codes (machine_stack_pointer (run f codes s)) b → KeepsStackPointer f codes frame (run f codes s).general g → get_or g.general f.register 0 ≡ b + f.offset
 value_of c f codes s b g None p e some hb k = cc
-value_of c f codes s b g (Some x) p e some hb k =
-    let i = undone.is_set c f codes s x p e in
-    k.2 ∙ (i.value ∙ ap (λ (y : ℕ). y + f.offset) hb)
+value_of c f codes s b g (Some x) p e some hb k = k.2 ∙ ((undone.is_set c f codes s x p e).value ∙ ap (λ (y : ℕ). y + f.offset) hb)
 
 exact_of : (frame : Option ℕ) (codes : List UnwindOperation) (t b p : ℕ) → undone.HasBase frame codes t b → (IsSome frame → p ≡ t) → IsExact frame b p t
-exact_of None codes t b p hb back = tt
-exact_of (Some c) codes t b p hb back = (back refl, hb)
+exact_of frame codes t b p hb back = grind arith
 
 -- with a register that was pushed late, a body keeps it so
 kept_late : (f : FrameRegister) (codes : List UnwindOperation) (frame : Option ℕ) (there : List ℕ) (b : ℕ) (g : Registers) → undone.HasBase frame codes (get_or there 4 0) b → KeepsStackPointer f codes frame there g → PushesLate codes → IsExact frame b (stack_pointer g) (get_or there 4 0)
-kept_late f codes None there b g hb k late = tt
-kept_late f codes (Some c) there b g hb k late = (k.1 late, hb)
+kept_late f codes frame there b g hb k late = grind arith
 
 -- no list of pops starts with `lea`
 abbrev HasNoLea : List Instruction → Type 0
@@ -416,10 +284,7 @@ HasNoLea (Lea r d ∷ is) = ⊥
 HasNoLea is = Unit {0}
 
 exit_no_lea : (i : Instruction) → Exits i → HasNoLea (i ∷ [])
-exit_no_lea (Add n) h = absurd h
-exit_no_lea (Lea r d) h = absurd h
-exit_no_lea (Pop r) h = absurd h
-exit_no_lea other h = tt
+exit_no_lea i h = grind arith
 
 pops_no_lea : (codes : List UnwindOperation) (is : List Instruction) → Pops codes is → HasNoLea is
 pops_no_lea [] is p = subst HasNoLea (sym p.2) (exit_no_lea p.0 p.1)
@@ -428,15 +293,11 @@ pops_no_lea (SetFPRegister ∷ before) is p = pops_no_lea before is p
 pops_no_lea (other ∷ before) is p = absurd p
 
 back_of : (is : List Instruction) (left : Machine) (g : Registers) → HasNoLea is → IsBack is left g → IsSome left.frame_base → stack_pointer g ≡ machine_stack_pointer left
-back_of [] left g none h = h
-back_of (Lea r d ∷ is) left g none h = absurd none
-back_of (other ∷ is) left g none h = h
+back_of is left g none h = grind arith
 
 spares_moves : (c : Bool) (f : FrameRegister) (codes : List UnwindOperation) (s : Machine) → IsProlog c f codes s → Spares (moves codes)
 spares_moves c f [] s p = tt
-spares_moves c f (PushNonVolatile r ∷ before) s p = (p.0.0.other, spares_moves c f before s p.1)
-spares_moves c f (SaveXMM r o ∷ before) s p = absurd p.0
-spares_moves c f (other ∷ before) s p = spares_moves c f before s p.1
+spares_moves c f (other ∷ before) s p = grind (arith, spares_moves c f before s)
 
 spares_pushes : (codes : List UnwindOperation) → Spares codes → Spares (pushes codes)
 spares_pushes [] h = h
@@ -462,14 +323,11 @@ plain (other ∷ before) is p = plain before is p
 
 all_rise : (m : ℕ → Option ℕ) (codes : List UnwindOperation) (is : List Instruction) (g u : Registers) → Spares codes → Pops codes is → length g.general ≡ 16 →
     executed_all m is g ≡ Ok u → stack_pointer g < stack_pointer u
-all_rise m [] is g u p q len e =
-    let rose = popped_rose m g u len (sym (exit_alone m is g q) ∙ e) in
-    omega (arith, rose.pointer_is)
+all_rise m [] is g u p q len e = search (rules, arith, popped_rose, exit_alone)
 all_rise m (PushNonVolatile r ∷ before) is g u p q len e =
     let w = went (executed m (Pop r.0) g) (executed_all m q.0) u (ap (λ (js : List Instruction). executed_all m js g) (sym q.1) ∙ e) in
     let rose = push_rose m 0 r g w.value p.0 len w.first in
-    let rest = all_rise m before q.0 w.value u p.1 q.2 rose.count w.next in
-    omega (arith, rose.pointer_is)
+    omega (arith, rose.pointer_is, all_rise m before q.0 w.value u p.1 q.2 rose.count w.next)
 all_rise m (SetFPRegister ∷ before) is g u p q len e = all_rise m before is g u p q len e
 all_rise m (other ∷ before) is g u p q len e = absurd q
 
@@ -480,20 +338,12 @@ none_append (j ∷ before) rest i e = cc
 -- once the first instruction has run, the stack pointer is below that of the caller wherever the others have come to
 rises : (m : ℕ → Option ℕ) (codes : List UnwindOperation) (is before rest : List Instruction) (i : Instruction) (g h u : Registers) → Spares codes → Pops codes is →
     is ≡ before ++ (i ∷ rest) → length g.general ≡ 16 → executed_all m before g ≡ Ok h → executed_all m is g ≡ Ok u → stack_pointer h < stack_pointer u
-rises m codes is [] rest i g h u p q at len ran all =
-    let same : g ≡ h = cc in
-    subst (λ (x : Registers). stack_pointer x < stack_pointer u) same (all_rise m codes is g u p q len all)
-rises m [] is (j ∷ before) rest i g h u p q at len ran all =
-    let both : q.0 ∷ [] ≡ j ∷ (before ++ (i ∷ rest)) = sym q.2 ∙ at in
-    let none : [] ≡ before ++ (i ∷ rest) = cc in
-    absurd (none_append before rest i none)
+rises m codes is [] rest i g h u p q at len ran all = grind (arith, all_rise)
+rises m [] is (j ∷ before) rest i g h u p q at len ran all = grind (arith, none_append)
 rises m (PushNonVolatile r ∷ codes) is (j ∷ before) rest i g h u p q at len ran all =
-    let both : Pop r.0 ∷ q.0 ≡ j ∷ (before ++ (i ∷ rest)) = sym q.1 ∙ at in
-    let head : Pop r.0 ≡ j = cc in
     let others : q.0 ≡ before ++ (i ∷ rest) = cc in
     let w = went (executed m j g) (executed_all m before) h ran in
     let x = went (executed m (Pop r.0) g) (executed_all m q.0) u (ap (λ (js : List Instruction). executed_all m js g) (sym q.1) ∙ all) in
-    let oks : Ok w.value ≡ Ok x.value = sym w.first ∙ (ap (λ (k : Instruction). executed m k g) (sym head) ∙ x.first) in
     let same : w.value ≡ x.value = cc in
     let rose = push_rose m 0 r g x.value p.0 len x.first in
     rises m codes q.0 before rest i x.value h u p.1 q.2 others rose.count (subst (λ (y : Registers). executed_all m before y ≡ Ok h) same w.next) x.next
@@ -504,11 +354,9 @@ rises m (other ∷ codes) is (j ∷ before) rest i g h u p q at len ran all = ab
 trimmed : (m : ℕ → Option ℕ) (codes : List UnwindOperation) (t j : Instruction) (is before rest : List Instruction) (i : Instruction) (g h u : Registers) → Spares codes → Pops codes is →
     t ∷ is ≡ j ∷ (before ++ (i ∷ rest)) → ((v : Registers) → executed m t g ≡ Ok v → length v.general ≡ 16) → executed_all m (j ∷ before) g ≡ Ok h → executed_all m (t ∷ is) g ≡ Ok u → stack_pointer h < stack_pointer u
 trimmed m codes t j is before rest i g h u p q both len ran all =
-    let head : t ≡ j = cc in
     let others : is ≡ before ++ (i ∷ rest) = cc in
     let w = went (executed m j g) (executed_all m before) h ran in
     let x = went (executed m t g) (executed_all m is) u all in
-    let oks : Ok w.value ≡ Ok x.value = sym w.first ∙ (ap (λ (k : Instruction). executed m k g) (sym head) ∙ x.first) in
     let same : w.value ≡ x.value = cc in
     rises m codes is before rest i x.value h u p q others (len x.value x.first) (subst (λ (y : Registers). executed_all m before y ≡ Ok h) same w.next) x.next
 
@@ -516,20 +364,12 @@ pub record Rose (p : ℕ) (w u : Registers) : Type 0 where
   pub same : w ≡ u
   pub low : p < stack_pointer w
 
-rose_by : (b : Bool) (p : ℕ) (w u : Registers) (d : FrameError) → (b ≡ true → p < stack_pointer w) → (if b then Ok w else Err d) ≡ Ok u → Rose p w u
-rose_by true p w u d low e = record { same = cc; low = low refl }
-rose_by false p w u d low e = cc
-
 pub rose : (p : ℕ) (w u : Registers) → rising p w ≡ Ok u → Rose p w u
-rose p w u e = rose_by (ltb p (stack_pointer w)) p w u (NotRising (stack_pointer w)) (λ t. grind (arith, nat_tests)) e
+rose p w u e = grind (arith, nat_tests)
 
 step_of : (o : Option (List Instruction)) (rest : List Instruction) (m : ℕ → Option ℕ) (plan : List UnwindInfoView) (offset : ℕ) (h u : Registers) (x : Result Registers FrameError) → o ≡ Some rest → executed_all m rest h ≡ Ok u → stack_pointer h < stack_pointer u →
     StepsFrom o m plan offset h x → x ≡ Ok u
-step_of None rest m plan offset h u x e ran low steps = cc
-step_of (Some is) rest m plan offset h u x e ran low steps =
-    let same : is ≡ rest = cc in
-    let test : ltb (stack_pointer h) (stack_pointer u) ≡ true = lt-ltb (stack_pointer h) (stack_pointer u) low in
-    steps ∙ rw same (rw ran (rw test refl))
+step_of o rest m plan offset h u x e ran low steps = grind (arith, lt-ltb)
 
 -- registers, and whether an interrupt entered the function
 abbrev with_kind : Bool → Registers → Result (Registers × Bool) FrameError
@@ -537,22 +377,13 @@ with_kind b u = Ok (u, b)
 
 -- the registers of an entry are those that undoing gave
 entry_same : (r : Result Registers FrameError) (b : Bool) (v : Registers) → (r >>= with_kind b) ≡ with_kind b v → r ≡ Ok v
-entry_same (Ok u) b v e =
-    let here : Registers × Bool = (u, b) in
-    let there : Registers × Bool = (v, b) in
-    let pair : here ≡ there = cc in
-    ap (λ (x : Registers × Bool). Ok x.0) pair
-entry_same (Err d) b v e = cc
+entry_same r b v e = grind arith
 
 -- the instruction that frees stack leads the stack pointer to the last push
 freed : (m : ℕ → Option ℕ) (b : ℕ) (c : Bool) (f : FrameRegister) (codes : List UnwindOperation) (s : Machine) (g : Registers) (i : Instruction) (is : List Instruction) → IsProlog c f codes s → Frees f (moves codes) i →
     undone.HasBase (run f codes s).frame_base codes (machine_stack_pointer (run f codes s)) b → KeepsStackPointer f codes (run f codes s).frame_base (run f codes s).general g → IsBack (i ∷ is) (run f codes s) g → trail b (stack_pointer g) (moves codes) < 2 ^ 64 →
     executed m i g ≡ Ok (put_register g 4 (trail b (stack_pointer g) (moves codes)))
-freed m b c f codes s g (Add n) is p e hb k back small =
-    let exact = exact_of (run f codes s).frame_base codes (machine_stack_pointer (run f codes s)) b (stack_pointer g) hb back in
-    let sum = trail_sum c f codes s b (stack_pointer g) p exact in
-    let at : stack_pointer g + n ≡ trail b (stack_pointer g) (moves codes) = ap (λ (x : ℕ). stack_pointer g + x) e ∙ sym sum in
-    undone.raised_at n (stack_pointer g) g refl (omega (arith, at)) ∙ ap (λ (x : ℕ). Ok (put_register g 4 x)) at
+freed m b c f codes s g (Add n) is p e hb k back small = grind (arith, exact_of, trail_sum, undone.raised_at)
 freed m b c f codes s g (Lea r d) is p e hb k back small =
     let l = led_by c f codes s d b (stack_pointer g) p e.1 (kept_late f codes (run f codes s).frame_base (run f codes s).general b g hb k) in
     let value = value_of c f codes s b g (run f codes s).frame_base p refl l.framed hb k in
@@ -571,17 +402,12 @@ ends_by m before rest i g h u ran all low = record { all = sym (executed_append 
 
 freed_below : (m : ℕ → Option ℕ) (codes : List UnwindOperation) (t : Instruction) (is before rest : List Instruction) (i : Instruction) (g v h u : Registers) → Spares codes → Pops codes is → t ∷ is ≡ before ++ (i ∷ rest) →
     executed m t g ≡ Ok v → length v.general ≡ 16 → executed_all m before g ≡ Ok h → executed_all m (t ∷ is) g ≡ Ok u → stack_pointer g < stack_pointer u → stack_pointer h < stack_pointer u
-freed_below m codes t is [] rest i g v h u p q at step len ran all low =
-    let same : g ≡ h = cc in
-    subst (λ (x : Registers). stack_pointer x < stack_pointer u) same low
-freed_below m codes t is (j ∷ before) rest i g v h u p q at step len ran all low =
-    trimmed m codes t j is before rest i g h u p q at (λ w x. let both : Ok v ≡ Ok w = sym step ∙ x in let same : v ≡ w = cc in ap (λ (y : Registers). length y.general) (sym same) ∙ len) ran all
+freed_below m codes t is [] rest i g v h u p q at step len ran all low = grind arith
+freed_below m codes t is (j ∷ before) rest i g v h u p q at step len ran all low = grind (arith, trimmed)
 
 -- the pops, from the last push on
 popped_rest : (m : ℕ → Option ℕ) (b t : ℕ) (codes : List UnwindOperation) (is : List Instruction) (g e u : Registers) → Spares codes → Reaches b t codes → length g.general ≡ 16 → undone_all m b codes (put_register g 4 t) ≡ Ok e → popped m e ≡ Ok u → Pops codes is → executed_all m is (put_register g 4 t) ≡ Ok u
-popped_rest m b t codes is g e u spares reaches len un up q =
-    let at : stack_pointer (put_register g 4 t) ≡ t = pointer_set g.general t len in
-    pops_come m b codes is (put_register g 4 t) e u spares (subst (λ (k : ℕ). Reaches b k codes) (sym at) reaches) (length-set g.general 4 t ∙ len) un up q
+popped_rest m b t codes is g e u spares reaches len un up q = search (rules, arith, pointer_set, pops_come, length-set)
 
 -- the instruction that frees stack leads where the pops come to the base of the frame
 reaches_freed : (b : ℕ) (c : Bool) (f : FrameRegister) (codes : List UnwindOperation) (s : Machine) (g : Registers) (i : Instruction) (is : List Instruction) → IsProlog c f codes s → Frees f (moves codes) i →
@@ -593,8 +419,7 @@ reaches_freed b c f codes s g other is p e hb k back = absurd e
 
 last_push_fits : (m : ℕ → Option ℕ) (t : ℕ) (codes : List UnwindOperation) (is : List Instruction) (g u : Registers) → Spares codes → Pops codes is → length g.general ≡ 16 → executed_all m is (put_register g 4 t) ≡ Ok u → stack_pointer u < 2 ^ 64 → t < 2 ^ 64
 last_push_fits m t codes is g u p q len all small =
-    let low = all_rise m codes is (put_register g 4 t) u p q (length-set g.general 4 t ∙ len) all in
-    omega (arith, pointer_set g.general t len)
+    omega (arith, pointer_set g.general t len, all_rise m codes is (put_register g 4 t) u p q (length-set g.general 4 t ∙ len) all)
 
 ends_of : (m : ℕ → Option ℕ) (b : ℕ) (c : Bool) (f : FrameRegister) (codes : List UnwindOperation) (s : Machine) (g h e u : Registers) (is before rest : List Instruction) (i : Instruction) → IsProlog c f codes s →
     undone.HasBase (run f codes s).frame_base codes (machine_stack_pointer (run f codes s)) b → KeepsStackPointer f codes (run f codes s).frame_base (run f codes s).general g → IsBack is (run f codes s) g → length g.general ≡ 16 → FreesAndPops f (moves codes) is →
@@ -621,8 +446,7 @@ ends_of m b c f codes s g h e u is before rest i p hb k back len (inr (j, js, fi
 
 -- the pops of an epilog
 pops_of : (f : FrameRegister) (codes : List UnwindOperation) (is : List Instruction) → FreesAndPops f codes is → (js : List Instruction) × Pops (pushes codes) js
-pops_of f codes is (inl (none, pops)) = (is, pops)
-pops_of f codes is (inr (j, js, first, frees, pops)) = (js, pops)
+pops_of f codes is h3 = grind arith
 
 -- registers from which the rest of an epilog comes to the caller
 pub record Comes (m : ℕ → Option ℕ) (parts : List Part) (i : Instruction) (rest : List Instruction) (g h : Registers) : Type 0 where
@@ -647,14 +471,12 @@ comes_alone m p before rest i g h frames epilog ready ran_so_far =
     let up = rose (stack_pointer g) left.value last.0 left.next in
     let to_caller : popped m e.entry ≡ Ok last.0 = left.first ∙ ap Ok up.same in
     let low : stack_pointer g < stack_pointer last.0 = subst (λ (y : Registers). stack_pointer g < stack_pointer y) up.same up.low in
-    let in_base : (undone_all m b.base codes g >>= with_kind (is_interrupted codes)) ≡ with_kind (is_interrupted codes) e.entry = rw b.is at e.is in
-    let undoes = entry_same (undone_all m b.base codes g) (is_interrupted codes) e.entry in_base in
+    let undoes = entry_same (undone_all m b.base codes g) (is_interrupted codes) e.entry (rw b.is at e.is) in
     let held = known m (run f codes p.entry).memory true f codes p.entry body.memory (holds true f codes p.entry prolog) in
     let moves_undone = unsaved m b.base true f codes p.entry g e.entry pops.0 prolog held b.saves b.points ready.restored pops.1 body.count undoes in
     let trail_undone = trails m b.base (moves codes) g e.entry body.count moves_undone in
-    let above_return = popped_rose m e.entry last.0 e.count to_caller in
     let at_entry : stack_pointer e.entry ≡ machine_stack_pointer p.entry = undone.left_plain codes p.entry e.entry calm e.leaves in
-    let small : stack_pointer last.0 < 2 ^ 64 = omega (arith, above_return.pointer_is, frames.1) in
+    let small : stack_pointer last.0 < 2 ^ 64 = omega (arith, (popped_rose m e.entry last.0 e.count to_caller).pointer_is, frames.1) in
     let ends = ends_of m b.base true f codes p.entry g h e.entry last.0 is before rest i prolog b.saves body.frame ready.back body.count epilog refl ran_so_far trail_undone to_caller small low in
     record { caller = last.0; ends = ends; is = last.2 }
 
@@ -665,28 +487,18 @@ record IsStill (f : FrameRegister) (codes : List UnwindOperation) (s : Machine) 
 
 still : (c : Bool) (f : FrameRegister) (codes : List UnwindOperation) (s : Machine) → IsProlog c f codes s → moves codes ≡ [] → IsStill f codes s
 still c f [] s p e = record { general = refl; frame = p.frame }
-still c f (SaveNonVolatile r o ∷ before) s p e = let i = still c f before s p.1 e in record { general = i.general; frame = i.frame }
-still c f (Epilog x y ∷ before) s p e = let i = still c f before s p.1 e in record { general = i.general; frame = i.frame }
-still c f (SaveXMM128 r o ∷ before) s p e = let i = still c f before s p.1 e in record { general = i.general; frame = i.frame }
-still c f (Noop ∷ before) s p e = let i = still c f before s p.1 e in record { general = i.general; frame = i.frame }
-still c f (other ∷ before) s p e = cc
+still c f (other ∷ before) s p e = grind (arith, still c f before s)
 
 still_pointer : (f : FrameRegister) (codes : List UnwindOperation) (s : Machine) (frame : Option ℕ) (there : List ℕ) (g : Registers) → frame ≡ None → there ≡ s.general → KeepsStackPointer f codes frame there g → stack_pointer g ≡ machine_stack_pointer s
-still_pointer f codes s None there g none same k = k ∙ ap (λ (xs : List ℕ). get_or xs 4 0) same
-still_pointer f codes s (Some b) there g none same k = cc
+still_pointer f codes s frame there g none same k = grind (arith, get_or)
 
 either : (b c : Bool) → (b || c) ≡ true → (b ≡ true) ⊎ (c ≡ true)
-either true c e = inl refl
-either false c e = inr e
+either b c e = grind arith
 
 -- what it saved is as it was
 restored_is : (codes : List UnwindOperation) (s : Machine) (g : Registers) (r : ℕ) → moves codes ≡ [] → AreRestored codes s g → saves codes r ≡ true → get_or g.general r 0 ≡ get_or s.general r 0
 restored_is [] s g r e h saved = cc
-restored_is (SaveNonVolatile q o ∷ before) s g r e h saved =
-    elim (either (eqb q.0 r) (saves before r) saved) [
-      | inl this ↦ (let same : q.0 ≡ r = grind (arith, nat_tests) in subst (λ (k : ℕ). get_or g.general k 0 ≡ get_or s.general k 0) same h.0)
-      | inr other ↦ restored_is before s g r e h.1 other
-    ]
+restored_is (SaveNonVolatile q o ∷ before) s g r e h saved = grind (arith, either, nat_tests, get_or, restored_is before s g r e)
 restored_is (Epilog x y ∷ before) s g r e h saved = restored_is before s g r e h saved
 restored_is (SaveXMM128 q o ∷ before) s g r e h saved = restored_is before s g r e h.1 saved
 restored_is (Noop ∷ before) s g r e h saved = restored_is before s g r e h saved
@@ -696,27 +508,19 @@ restored_xmm_is : (codes : List UnwindOperation) (s : Machine) (g : Registers) (
 restored_xmm_is [] s g r e h saved = cc
 restored_xmm_is (SaveNonVolatile q o ∷ before) s g r e h saved = restored_xmm_is before s g r e h.1 saved
 restored_xmm_is (Epilog x y ∷ before) s g r e h saved = restored_xmm_is before s g r e h saved
-restored_xmm_is (SaveXMM128 q o ∷ before) s g r e h saved =
-    elim (either (eqb (q.0 - 17) r) (saves_xmm before r) saved) [
-      | inl this ↦ (let same : q.0 - 17 ≡ r = grind (arith, nat_tests) in subst (λ (k : ℕ). get_or g.xmm k 0 ≡ get_or s.xmm k 0) same h.0)
-      | inr other ↦ restored_xmm_is before s g r e h.1 other
-    ]
+restored_xmm_is (SaveXMM128 q o ∷ before) s g r e h saved = grind (arith, either, nat_tests, get_or, restored_xmm_is before s g r e)
 restored_xmm_is (Noop ∷ before) s g r e h saved = restored_xmm_is before s g r e h saved
 restored_xmm_is (other ∷ before) s g r e h saved = cc
 
 chosen_same : (b : Bool) (old now : ℕ) → (b ≡ true → now ≡ old) → chosen b old now ≡ now
-chosen_same true old now h = sym (h refl)
-chosen_same false old now h = refl
+chosen_same b old now h = grind arith
 
 -- so the frame registers of the parts around it are
 frames_kept : (p : Part) (parts : List Part) (g : Registers) → moves (ran None p.codes) ≡ [] → AreRestored (ran None p.codes) p.entry g →
     AllByRecursion (λ o. IsSome (left None o).frame_base → SavesOrKeeps None p g (o.info.frame_register).0) parts →
     AllByRecursion (λ o. IsSome (left None o).frame_base → get_or g.general (o.info.frame_register).0 0 ≡ get_or p.entry.general (o.info.frame_register).0 0) parts
 frames_kept p [] g e h keeps = tt
-frames_kept p (o ∷ parts) g e h keeps = (
-  λ framed. elim (keeps.0 framed) [ inl saved ↦ restored_is (ran None p.codes) p.entry g (o.info.frame_register).0 e h saved | inr kept ↦ kept ],
-  frames_kept p parts g e h keeps.1,
-)
+frames_kept p (o ∷ parts) g e h keeps = grind (arith, restored_is, frames_kept p parts g e h)
 
 pub comes : (m : ℕ → Option ℕ) (p : Part) (parts : List Part) (before rest : List Instruction) (i : Instruction) (g h : Registers) → AreFrames m (p ∷ parts) None g → IsEpilogOfParts (p ∷ parts) (before ++ (i ∷ rest)) →
     AreReady (p ∷ parts) (before ++ (i ∷ rest)) g → executed_all m before g ≡ Ok h → Comes m (p ∷ parts) i rest g h

@@ -1,14 +1,8 @@
 -- The samples are frames of a running program.
-use Rattle.std.proofs.Common.{inl, inr, Bool, true, false, IsSome, [], ◌∷◌, map, Some, None, Ok, refl, arith, rules}
-use Rattle.pe_unwind.specs.CodeStream.{AreItems}
-use Rattle.pe_unwind.specs.UnwindRecord.{code_stream}
-use Rattle.pe_frame.specs.Undoing.{ran}
-use Rattle.pe_frame.specs.Steps.{frame_register_in}
-use Rattle.pe_frame.specs.Machine.{IsProlog, IsBody}
-use Rattle.pe_frame.specs.Frames.{Part, left, registers_of, IsRecord, SavesOrKeeps, AreFrames}
-use Rattle.pe_frame.specs.EpilogFrames.{IsReady, AreReady}
-use Rattle.pe_frame.specs.declared.epilog.Instruction.TheVariants.{Add, Lea, Pop, Return}
-use Rattle.pe_frame.specs.Samples.{all_known, home_part, inner_part, framed_part, interrupt_part, late_part, pushed_part, told_part}
+use Rattle.std.proofs.Common.{inl, inr, Bool, true, false, IsSome, ◌∷◌, map, Some, None, Ok, refl, arith, rules, []}
+use Rattle.pe_frame.proofs.Cited.{AreItems, code_stream, ran, frame_register_in, IsProlog, IsBody, Part, left, registers_of, IsRecord}
+use Rattle.pe_frame.proofs.Cited.{SavesOrKeeps, AreFrames, IsReady, AreReady, Add, Lea, Pop, Return, all_known, home_part, inner_part}
+use Rattle.pe_frame.proofs.Cited.{framed_part, interrupt_part, late_part, pushed_part, told_part}
 
 abbrev HasItems : Part → Type 0
 HasItems p = AreItems (code_stream p.info) (map Ok p.codes)

@@ -1,10 +1,8 @@
 -- What a prolog saved stays where it was stored.
-use Rattle.std.proofs.Common.{◌≡◌, ℕ, ◌+◌, ◌-◌, ◌/◌, ◌%◌, ◌^◌, ◌<◌, ◌≤◌, inl, inr, Bool, true, false, List, [], ◌∷◌, get_or, Option, Some, refl, ap, ◌∙◌, arith}
-use Rattle.std.specs.List.{AllByRecursion}
-use Rattle.pe_unwind.specs.declared.unwind_code.UnwindOperation.{UnwindOperation}
-use Rattle.pe_unwind.specs.declared.unwind_code.UnwindOperation.TheVariants.{PushNonVolatile, Alloc, SetFPRegister, SaveNonVolatile, SaveXMM, Epilog, SaveXMM128, PushMachineFrame, Noop}
-use Rattle.pe_frame.specs.Undoing.{FrameRegister, bytes_above, error_size}
-use Rattle.pe_frame.specs.Machine.{Machine, machine_stack_pointer, base, loaded, stored, run, slots, Apart, IsProlog}
+use Rattle.std.proofs.Common.{◌≡◌, ℕ, ◌+◌, ◌-◌, ◌/◌, ◌%◌, ◌^◌, ◌<◌, ◌≤◌, inl, inr, Bool, true, false, List, ◌∷◌, get_or, Option, Some, refl, ap, ◌∙◌, arith, []}
+use Rattle.pe_frame.proofs.Cited.{AllByRecursion, UnwindOperation, PushNonVolatile, SaveNonVolatile, SaveXMM128, PushMachineFrame}
+use Rattle.pe_frame.proofs.Cited.{FrameRegister, bytes_above, error_size, Machine, machine_stack_pointer, base, loaded, stored, run, slots}
+use Rattle.pe_frame.proofs.Cited.{Apart, IsProlog}
 use Rattle.pe_frame.proofs.Words.{loaded-stored, loaded-apart}
 use Rattle.pe_frame.proofs.Runs.{entered, same, same_xmm, slots_above}
 
@@ -31,10 +29,8 @@ holds_stored mem x w true f [] s apart h = loaded-apart mem x w _ apart.0 ∙ h
 holds_stored mem x w false f [] s apart h = tt
 holds_stored mem x w c f (PushNonVolatile r ∷ before) s apart h = (loaded-apart mem x w _ apart.0 ∙ h.0, holds_stored mem x w c f before s apart.1 h.1)
 holds_stored mem x w c f (SaveNonVolatile r o ∷ before) s apart h = (loaded-apart mem x w _ apart.0 ∙ h.0, holds_stored mem x w c f before s apart.1 h.1)
-holds_stored mem x w c f (SaveXMM128 r o ∷ before) s apart h =
-    (loaded-apart mem x w _ apart.0 ∙ h.0, (loaded-apart mem x w _ apart.1.0 ∙ h.1.0, holds_stored mem x w c f before s apart.1.1 h.1.1))
-holds_stored mem x w c f (PushMachineFrame e ∷ before) s apart h =
-    (loaded-apart mem x w _ apart.0 ∙ h.0, (loaded-apart mem x w _ apart.1.0 ∙ h.1.0, holds_stored mem x w c f before s apart.1.1 h.1.1))
+holds_stored mem x w c f (SaveXMM128 r o ∷ before) s apart h = grind (arith, loaded-apart, holds_stored mem x w c f before s)
+holds_stored mem x w c f (PushMachineFrame e ∷ before) s apart h = grind (arith, loaded-apart, holds_stored mem x w c f before s)
 holds_stored mem x w c f (other ∷ before) s apart h = holds_stored mem x w c f before s apart h
 
 -- what is stored below all slots is apart from them
@@ -53,14 +49,10 @@ holds c f (PushNonVolatile r ∷ before) s p = (
   stored_value (run f before s).memory (machine_stack_pointer (run f before s) - 8) _ _ (same c f before s r.0 p.1 p.0.0.other p.0.1) ((entered c f before s p.1).values r.0),
   holds_stored (run f before s).memory (machine_stack_pointer (run f before s) - 8) _ c f before s (below_all (slots c f before s) (machine_stack_pointer (run f before s)) p.0.3 (slots_above c f before s p.1)) (holds c f before s p.1),
 )
-holds c f (Alloc n ∷ before) s p = holds c f before s p.1
-holds c f (SetFPRegister ∷ before) s p = holds c f before s p.1
 holds c f (SaveNonVolatile r o ∷ before) s p = (
   stored_value (run f before s).memory (base (run f before s) + bytes_above o) _ _ (same c f before s r.0 p.1 p.0.0.other p.0.1) ((entered c f before s p.1).values r.0),
   holds_stored (run f before s).memory (base (run f before s) + bytes_above o) _ c f before s p.0.3 (holds c f before s p.1),
 )
-holds c f (SaveXMM r o ∷ before) s p = absurd p.0
-holds c f (Epilog a b ∷ before) s p = holds c f before s p.1
 holds c f (SaveXMM128 r o ∷ before) s p =
     let t = run f before s in
     let a = base t + bytes_above o in
@@ -68,18 +60,17 @@ holds c f (SaveXMM128 r o ∷ before) s p =
     let w = get_or t.xmm (r.0 - 17) 0 in
     let is : w ≡ v = ap (λ (xs : List ℕ). get_or xs (r.0 - 17) 0) (same_xmm f before s) in
     let small : v < 2 ^ 128 = (entered c f before s p.1).xmm_values (r.0 - 17) in
-    let low = stored_value t.memory a (w % 2 ^ 64) (v % 2 ^ 64) (ap (λ (k : ℕ). k % 2 ^ 64) is) (omega arith) in
-    let high = stored_value (stored t.memory a (w % 2 ^ 64)) (a + 8) (w / 2 ^ 64) (v / 2 ^ 64) (ap (λ (k : ℕ). k / 2 ^ 64) is) (omega arith) in (
+    let low = stored_value t.memory a (w % 2 ^ 64) (v % 2 ^ 64) (ap (λ (k : ℕ). k % 2 ^ 64) is) (omega arith) in (
       loaded-apart (stored t.memory a (w % 2 ^ 64)) (a + 8) (w / 2 ^ 64) a (inr (omega arith)) ∙ low,
       (
-        high,
+        stored_value (stored t.memory a (w % 2 ^ 64)) (a + 8) (w / 2 ^ 64) (v / 2 ^ 64) (ap (λ (k : ℕ). k / 2 ^ 64) is) (omega arith),
         holds_stored (stored t.memory a (w % 2 ^ 64)) (a + 8) (w / 2 ^ 64) c f before s p.0.3 (holds_stored t.memory a (w % 2 ^ 64) c f before s p.0.2 (holds c f before s p.1)),
       ),
     )
 holds true f (PushMachineFrame e ∷ []) s p = (refl, (refl, refl))
 holds false f (PushMachineFrame e ∷ []) s p = (refl, (refl, tt))
 holds c f (PushMachineFrame e ∷ o ∷ before) s p = absurd p.0.0
-holds c f (Noop ∷ before) s p = holds c f before s p.1
+holds c f (other ∷ before) s p = holds c f before s p.1
 
 -- the same of a memory that agrees on the slots
 pub known : (m : ℕ → Option ℕ) (mem : ℕ → ℕ) (c : Bool) (f : FrameRegister) (codes : List UnwindOperation) (s : Machine) → AllByRecursion (λ a. m a ≡ Some (loaded mem a)) (slots c f codes s) → Holds (λ a v. loaded mem a ≡ v) c f codes s → Holds (λ a v. m a ≡ Some v) c f codes s

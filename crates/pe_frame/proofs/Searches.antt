@@ -1,26 +1,12 @@
 -- Memory that is searched is that of the list of its pieces, where they ascend.
-use Rattle.std.proofs.Common.{◌≡◌, ℕ, zero, suc, ◌+◌, ◌-◌, ◌^◌, ◌<◌, ◌≤◌, Bool, true, false, cond, inl, inr, nat_eq, List, [], ◌∷◌, ◌++◌, nat_le, length, Option, Some, None, get_or, refl, ap, sym, ◌∙◌, subst, arith}
-use Rattle.std.proofs.lemmas.Bool.{cases_lt}
-use Rattle.std.proofs.lemmas.Bool.Decides.{nat_tests}
-use Rattle.std.proofs.Math.Path.{fun_ext}
-use Rattle.std.proofs.lemmas.List.{get_or_default}
-use Rattle.std.specs.List.{AllByRecursion, find}
-use Rattle.std.specs.Option.{option_and_then, option_map}
-use Rattle.pe_core.specs.Bytes.{holds, le}
-use Rattle.pe_core.specs.Rows.{each}
-use Rattle.pe_core.proofs.EntryItems.{get_or-each}
-use Rattle.pe_core.proofs.Equality.{both}
-use Rattle.pe_core.proofs.Map.{found_passes}
-use Rattle.pe_lookup.specs.AddressRanges.{AreAscending, IsCountUpTo}
-use Rattle.pe_frame.specs.Machine.{loaded}
-use Rattle.pe_frame.specs.MemoryLists.{AreListed, are_inside, ascend, has_word, listed_byte, listed_word, lists_byte}
-use Rattle.pe_frame.specs.MemoryPieces.{known_bytes, known_word}
-use Rattle.pe_frame.specs.SearchedMemory.{no_piece, piece_found, piece_shown, pieces_started, searched_byte, searched_word, shows_byte, word_by}
-use Rattle.pe_frame.specs.declared.memory_list.MemoryPiece.{MemoryPiece}
-use Rattle.pe_lookup.proofs.Halving.{counted}
+use Rattle.std.proofs.Common.{◌≡◌, ℕ, zero, suc, ◌+◌, ◌-◌, ◌^◌, ◌<◌, ◌≤◌, Bool, true, false, cond, inl, inr, nat_eq, List, ◌∷◌, ◌++◌, nat_le, length, Option, Some, None, get_or, refl, ap, sym, ◌∙◌, subst, arith, rules, []}
+use Rattle.pe_frame.proofs.Cited.{cases_lt, nat_tests, fun_ext, get_or_default, AllByRecursion, find, option_and_then, option_map, holds}
+use Rattle.pe_frame.proofs.Cited.{le, each, get_or-each, both, found_passes, AreAscending, IsCountUpTo, loaded, AreListed, are_inside}
+use Rattle.pe_frame.proofs.Cited.{ascend, has_word, listed_word, lists_byte, known_bytes, known_word, no_piece, piece_found, piece_shown}
+use Rattle.pe_frame.proofs.Cited.{pieces_started, searched_byte, searched_word, shows_byte, word_by, MemoryPiece, counted, ends_before}
+use Rattle.pe_frame.proofs.Cited.{found_of_all, has_it, is_within, none_starts, range_found, range_missed, starts_rise, test_ascends}
 use Rattle.pe_frame.proofs.Begun.{number_shown}
 use Rattle.pe_frame.proofs.ListsShow.{byte_here, same_word}
-use Rattle.pe_lookup.proofs.Lookups.{ends_before, found_of_all, has_it, is_within, none_starts, range_found, range_missed, starts_rise, test_ascends}
 use Rattle.pe_frame.proofs.OnePiece.{word_in_piece}
 
 abbrev start_of : MemoryPiece → ℕ
@@ -42,8 +28,7 @@ is_shown bytes pieces a p is has inside = rw (is, has, inside) refl
 by_count : (bytes : List ℕ) (pieces : List MemoryPiece) (a n : ℕ) → AreAscending start_of size_of pieces → are_inside bytes pieces ≡ true → IsCountUpTo start_of a pieces n → pieces_started pieces a ≡ n → piece_shown bytes pieces a ≡ find (lists_byte a) pieces
 by_count bytes pieces a zero up inside count is =
     let found : piece_found pieces a ≡ no_piece = rw is refl in
-    let not : lists_byte a (piece_found pieces a) ≡ false = rw found (ends_before 0 0 a (omega arith)) in
-    not_shown bytes pieces a not ∙ sym (none_starts start_of size_of pieces a 0 count refl)
+    not_shown bytes pieces a (rw found (ends_before 0 0 a (omega arith))) ∙ sym (none_starts start_of size_of pieces a 0 count refl)
 by_count bytes pieces a (suc n) up inside count is =
     let x : MemoryPiece = get_or pieces n no_piece in
     let some : nat_eq (suc n) 0 ≡ false = grind (arith, nat_tests) in
@@ -71,38 +56,26 @@ piece_listed bytes pieces a up inside = by_count bytes pieces a (pieces_started 
 
 -- what is shown shows the byte
 by_test : (bytes : List ℕ) (a : ℕ) (p q : MemoryPiece) (t : Bool) → shows_byte bytes a q ≡ t → cond t (Some q) None ≡ Some p → shows_byte bytes a p ≡ true
-by_test bytes a p q true h e = let same : q ≡ p = cc e in subst (λ (z : MemoryPiece). shows_byte bytes a z ≡ true) same h
-by_test bytes a p q false h e = absurd (cc e)
+by_test bytes a p q t h e = grind arith
 
 pub shown : (bytes : List ℕ) (pieces : List MemoryPiece) (a : ℕ) (p : MemoryPiece) → Some p ≡ piece_shown bytes pieces a → (lists_byte a p ≡ true) × (holds bytes p.offset p.length ≡ true)
 unfolding piece_shown
-shown bytes pieces a p is =
-    both (lists_byte a p) (holds bytes p.offset p.length) (by_test bytes a p (piece_found pieces a) (shows_byte bytes a (piece_found pieces a)) refl (sym is))
+shown bytes pieces a p is = grind (arith, both, by_test)
 
 -- ---- the word
 
 by_bytes : (bytes : List ℕ) (pieces : List MemoryPiece) (a : ℕ) → AreAscending start_of size_of pieces → are_inside bytes pieces ≡ true → known_word (searched_byte bytes pieces) a ≡ listed_word bytes pieces a
-by_bytes bytes pieces a up inside =
-    same_word (searched_byte bytes pieces) (listed_byte bytes pieces) a (λ b. ap (option_map (λ p. get_or bytes (p.offset + (b - p.start)) 0)) (piece_listed bytes pieces b up inside))
+by_bytes bytes pieces a up inside = grind (arith, same_word, get_or, piece_listed)
 
 in_one : (bytes : List ℕ) (pieces : List MemoryPiece) (a : ℕ) (p : MemoryPiece) (t : Bool) → AreAscending start_of size_of pieces → are_inside bytes pieces ≡ true → find (lists_byte a) pieces ≡ Some p → has_word a p ≡ t → cond t (Some (le bytes (p.offset + (a - p.start)) 8)) (known_word (searched_byte bytes pieces) a) ≡ listed_word bytes pieces a
-in_one bytes pieces a p false up inside found has = by_bytes bytes pieces a up inside
-in_one bytes pieces a p true up inside found has =
-    let within = is_within p.start p.length a (found_passes (lists_byte a) pieces p found) in
-    sym (word_in_piece bytes pieces p a up found within.0 (grind (arith, nat_tests)) (grind (arith, nat_tests)))
-
-by_piece : (bytes : List ℕ) (pieces : List MemoryPiece) (a : ℕ) (found : Option MemoryPiece) → AreAscending start_of size_of pieces → are_inside bytes pieces ≡ true → find (lists_byte a) pieces ≡ found → word_by bytes pieces a found ≡ listed_word bytes pieces a
-by_piece bytes pieces a None up inside is = by_bytes bytes pieces a up inside
-by_piece bytes pieces a (Some p) up inside is = in_one bytes pieces a p (has_word a p) up inside is refl
+in_one bytes pieces a p t up inside found has = search (rules, arith, by_bytes, is_within, found_passes, word_in_piece, nat_tests)
 
 pub word_listed : (bytes : List ℕ) (pieces : List MemoryPiece) (a : ℕ) → AreAscending start_of size_of pieces → are_inside bytes pieces ≡ true → searched_word bytes pieces a ≡ listed_word bytes pieces a
-word_listed bytes pieces a up inside =
-    by_piece bytes pieces a (piece_shown bytes pieces a) up inside (sym (piece_listed bytes pieces a up inside))
+word_listed bytes pieces a up inside = grind (arith, by_bytes, in_one, piece_listed)
 
 -- all words, by the test of the order
 pub words_listed : (bytes : List ℕ) (pieces : List MemoryPiece) → are_inside bytes pieces ≡ true → ascend pieces ≡ true → searched_word bytes pieces ≡ listed_word bytes pieces
-words_listed bytes pieces inside up =
-    fun_ext (λ (a : ℕ). word_listed bytes pieces a (test_ascends start_of size_of pieces up) inside)
+words_listed bytes pieces inside up = search (rules, arith, fun_ext, word_listed, test_ascends)
 
 -- ---- pieces in any order
 
@@ -113,8 +86,7 @@ all_at P (x ∷ xs) zero d all past = all.0
 all_at P (x ∷ xs) (suc i) d all past = all_at P xs i d all.1 past
 
 either : {X : Type 0} (P : X → Type 0) (t : Bool) (x y : X) → P x → P y → P (cond t x y)
-either P true x y h k = h
-either P false x y h k = k
+either P t x y h k = grind arith
 
 module _ (memory : ℕ → ℕ) (bytes : List ℕ) (pieces : List MemoryPiece) (shows : AreListed memory bytes pieces) where
   abbrev Shows : MemoryPiece → Type 0

@@ -1,17 +1,8 @@
 -- In sections in ascending order no section has an RVA but the last that starts at or before it.
-use Rattle.std.proofs.Common.{◌≡◌, ℕ, zero, suc, ◌-◌, ◌<◌, Bool, true, false, ◌&&◌, ◌||◌, nat_le, nat_lt, List, [], ◌∷◌, length, take, drop, get_or, inl, inr, refl, ap, sym, ◌∙◌, arith}
-use Rattle.std.proofs.lemmas.Bool.{cases_lt}
-use Rattle.std.proofs.lemmas.Bool.Decides.{nat_tests}
-use Rattle.std.proofs.lemmas.List.{get_or_default}
-use Rattle.std.proofs.lemmas.List.Folds.{list_any_at}
-use Rattle.std.specs.List.{list_any}
-use Rattle.pe_core.specs.declared.section_table.SectionTable.{SectionTable}
-use Rattle.pe_lookup.specs.AddressRanges.{AreAscending, IsCountUpTo, has_address}
-use Rattle.pe_frame.specs.Modules.{executes, is_executable}
-use Rattle.pe_lookup.specs.SectionIndexes.{numbered}
-use Rattle.pe_lookup.specs.SectionSearch.{memory_size, no_section, section_start, sections_started}
-use Rattle.pe_lookup.proofs.Halving.{counted}
-use Rattle.pe_lookup.proofs.Lookups.{ends_before, starts_after, starts_rise}
+use Rattle.std.proofs.Common.{◌≡◌, ℕ, zero, suc, ◌-◌, ◌<◌, Bool, true, false, ◌&&◌, ◌||◌, nat_le, nat_lt, List, ◌∷◌, length, take, drop, get_or, inl, inr, refl, ap, sym, ◌∙◌, arith, []}
+use Rattle.pe_frame.proofs.Cited.{cases_lt, nat_tests, get_or_default, list_any_at, list_any, SectionTable, AreAscending, IsCountUpTo}
+use Rattle.pe_frame.proofs.Cited.{has_address, executes, is_executable, numbered, memory_size, no_section, section_start, sections_started}
+use Rattle.pe_frame.proofs.Cited.{counted, ends_before, starts_after, starts_rise}
 
 fails : (b t : Bool) → t ≡ false → (b && t) ≡ false
 fails true t h = h

@@ -1,28 +1,14 @@
 -- Each frame on ARM64 has a caller, or a reason why it has none, in modules whose bytes are numbers below 256.
-use Rattle.std.proofs.Common.{◌≡◌, ℕ, ◌+◌, ◌*◌, ◌-◌, ◌<◌, Bool, true, false, cond, All, List, [], ◌∷◌, drop, Option, Some, None, Result, Ok, Err, refl, ap, subst}
-use Rattle.std.proofs.lemmas.List.Elements.{All-drop, All-take}
-use Rattle.std.specs.List.{find}
-use Rattle.std.specs.Option.{option_map}
-use Rattle.std.specs.Prelude.{nat_lt, if◌then◌else◌}
-use Rattle.pe_core.proofs.NoMemory.{Lacks, if_lacks, is_memory, one_test_lacks, outcome_lacks, then_lacks}
-use Rattle.pe_core.specs.Bytes.{holds, le}
-use Rattle.pe_core.specs.Refusals.{Refusal, Short, outcome}
-use Rattle.pe_core.specs.SectionMap.{mapped}
-use Rattle.pe_unwind.specs.Arm64Functions.{arm64_functions, is_packed}
-use Rattle.pe_unwind.specs.Arm64Lookup.{FindsArm64, if_long_enough, length_by, length_in_record}
-use Rattle.pe_unwind.specs.Arm64Record.{Arm64InfoView, extension_at, info_at, info_tests, info_with, scope_count, code_words, scopes_offset}
-use Rattle.pe_unwind.specs.Arm64Unwinding.{info_at_offset, info_by}
-use Rattle.pe_unwind.specs.Arm64Words.{bits}
-use Rattle.pe_unwind.specs.ExceptionTable.{ExceptionView, table_of}
-use Rattle.pe_unwind.specs.declared.arm64.function.Arm64RuntimeFunction.{Arm64RuntimeFunction}
-use Rattle.pe_lookup.specs.AddressRanges.{has_address}
-use Rattle.pe_frame.specs.Arm64Walks.{AreModulesOfBytes, Calls, CallsBy, CallsByInfo, CallsFound, CallsIn, HasBytes, IsModuleOfBytes, caller_in_code, caller_outside, caller_without_table, leaf_is_guess, frame_after, length_in, lookup_address, place_of, stepped_out_packed}
-use Rattle.pe_frame.specs.FrameWalks.{Process}
-use Rattle.pe_frame.specs.Modules.{map_of_module, module_at, module_base, module_size}
-use Rattle.pe_frame.specs.Walks.{IsUnreadable}
-use Rattle.pe_frame.specs.declared.arm64.walk.Arm64StackFrame.{Arm64StackFrame}
-use Rattle.pe_frame.specs.declared.modules.Module.{Module}
-use Rattle.pe_frame.specs.declared.walk.WalkEnd.{WalkEnd}
+use Rattle.std.proofs.Common.{◌≡◌, ℕ, ◌+◌, ◌*◌, ◌-◌, ◌<◌, Bool, true, false, cond, All, List, ◌∷◌, drop, Option, Some, None, Result, Ok, Err, refl, ap, subst, []}
+use Rattle.pe_frame.proofs.Cited.{All-drop, All-take, find, option_map, nat_lt, if◌then◌else◌, Lacks, if_lacks, is_memory, one_test_lacks}
+use Rattle.pe_frame.proofs.Cited.{outcome_lacks, then_lacks, holds, le, Refusal, Short, outcome, mapped, arm64_functions, is_packed}
+use Rattle.pe_frame.proofs.Cited.{FindsArm64, if_long_enough, length_by, length_in_record, Arm64InfoView, extension_at, info_at, info_tests}
+use Rattle.pe_frame.proofs.Cited.{info_with, scope_count, code_words, scopes_offset, info_at_offset, info_by, bits, ExceptionView, table_of}
+use Rattle.pe_frame.proofs.Cited.{Arm64RuntimeFunction, has_address, AreModulesOfBytes, Calls, CallsBy, CallsByInfo, CallsFound, CallsIn}
+use Rattle.pe_frame.proofs.Cited.{HasBytes, IsModuleOfBytes, caller_in_code, caller_without_table, length_in, lookup_address, place_of}
+use Rattle.pe_frame.proofs.Cited.{stepped_out_packed, Process, map_of_module, module_at, module_base, module_size, IsUnreadable}
+use Rattle.pe_frame.proofs.Cited.{Arm64StackFrame, Module, WalkEnd}
+use Rattle.pe_frame.specs.Arm64Walks.{caller_outside, leaf_is_guess, frame_after}
 use Rattle.pe_frame.specs.declared.walk.WalkEnd.TheVariants as ends
 use Rattle.pe_frame.proofs.Arm64Streams.{some_arm64_step_out}
 use Rattle.pe_frame.proofs.SomeError.{some_error}

@@ -1,8 +1,7 @@
 -- Each refusal but `Memory`, of which the allocator makes the error, is that of an error.
 use Rattle.std.proofs.Common.{◌≡◌, ◌≢◌, refl}
+use Rattle.pe_frame.proofs.Cited.{Refusal, kind_of, Error}
 use Rattle.pe_core.specs.Refusals as refusals
-use Rattle.pe_core.specs.Refusals.{Refusal, kind_of}
-use Rattle.pe_core.specs.declared.error.Error.{Error}
 use Rattle.pe_core.specs.declared.error.Error.TheVariants as errors
 use Rattle.pe_core.specs.declared.error.Reason.TheVariants as reasons
 

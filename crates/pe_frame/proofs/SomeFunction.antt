@@ -1,14 +1,8 @@
 -- Lookup has a result in any table: that of a linear scan.
-use Rattle.std.proofs.Common.{◌≡◌, ℕ, ◌≤◌, ◌⊎◌, inl, inr, Bool, true, false, leb, List, [], ◌∷◌, ◌++◌, Option, Some, None, refl, ap, sym, ◌∙◌, subst, arith, append_assoc}
-use Rattle.std.specs.List.{Contains, filter, last_or}
-use Rattle.std.proofs.lemmas.Bool.{cases_lt}
-use Rattle.std.proofs.lemmas.Bool.Decides.{nat_tests}
-use Rattle.std.proofs.lemmas.List.Elements.{Contains-append_right}
-use Rattle.pe_core.specs.Rows.{whole_entries}
-use Rattle.pe_unwind.specs.FunctionTable.{Finds, function_at, functions}
-use Rattle.pe_unwind.specs.Lookup.{FindsStart, StartsAfter, StopsAfter}
-use Rattle.pe_unwind.specs.declared.function_table.RuntimeFunction.{RuntimeFunction}
-use Rattle.pe_unwind.proofs.Searches.{finds_inside, finds_none, finds_past, last_or-append}
+use Rattle.std.proofs.Common.{◌≡◌, ℕ, ◌≤◌, ◌⊎◌, inl, inr, Bool, true, false, leb, List, ◌∷◌, ◌++◌, Option, Some, None, refl, ap, sym, ◌∙◌, subst, arith, append_assoc, []}
+use Rattle.pe_frame.proofs.Cited.{Contains, filter, last_or, cases_lt, nat_tests, Contains-append_right, whole_entries, Finds, function_at}
+use Rattle.pe_frame.proofs.Cited.{functions, FindsStart, StartsAfter, StopsAfter, RuntimeFunction, finds_inside, finds_none, finds_past}
+use Rattle.pe_frame.proofs.Cited.{last_or-append}
 
 module _ {X : Type 0} (start : X → ℕ) (a : ℕ) where
   abbrev Starts : X → Bool

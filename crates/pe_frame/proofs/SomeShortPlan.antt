@@ -1,14 +1,7 @@
 -- A function has a short plan: its chain is followed for as many records as one has at most.
-use Rattle.std.proofs.Common.{◌≡◌, ◌≢◌, ℕ, zero, suc, ◌+◌, ◌<◌, List, [], ◌∷◌, ◌++◌, length, Option, Some, None, Result, Ok, Err, refl, subst, arith, length-append}
-use Rattle.pe_core.specs.Refusals.{Refusal, Memory}
-use Rattle.pe_unwind.specs.declared.function_table.RuntimeFunction.{RuntimeFunction}
-use Rattle.pe_unwind.specs.Links.{Table}
-use Rattle.pe_unwind.specs.UnwindRecord.{UnwindInfoView}
-use Rattle.pe_unwind.specs.Unwinding.{Unwinds}
-use Rattle.pe_plan.specs.Plans.{IsChain}
-use Rattle.pe_plan.specs.ShortPlans.{PlansShort, most_records}
-use Rattle.pe_plan.proofs.Chains.{one_more}
-use Rattle.pe_plan.proofs.RecordLaw.{RecordLaw}
+use Rattle.std.proofs.Common.{◌≡◌, ◌≢◌, ℕ, zero, suc, ◌+◌, ◌<◌, List, ◌∷◌, ◌++◌, length, Option, Some, None, Result, Ok, Err, refl, subst, arith, length-append, []}
+use Rattle.pe_frame.proofs.Cited.{Refusal, Memory, RuntimeFunction, Table, UnwindInfoView, Unwinds, IsChain, PlansShort, most_records}
+use Rattle.pe_frame.proofs.Cited.{one_more, RecordLaw}
 
 abbrev pub PlannedShort : Table → List ℕ → RuntimeFunction → Type 0
 PlannedShort t b f = (x : Result (Option (List UnwindInfoView)) Refusal) × PlansShort t b f x × (x ≢ Err Memory)

@@ -1,14 +1,7 @@
 -- Pops at the start of code, one after the other.
-use Rattle.pe_core.specs.Refusals.{◌>>=◌}
-use Rattle.pe_core.proofs.Steps.{then_then}
-use Rattle.std.proofs.Common.{◌≡◌, ℕ, zero, suc, List, [], ◌∷◌, ◌++◌, map, drop, Option, Some, None, Result, Ok, Err, refl, ap, sym, ◌∙◌}
-use Rattle.pe_frame.specs.declared.epilog.Instruction.{Instruction}
-use Rattle.pe_frame.specs.declared.epilog.Instruction.TheVariants.{Pop}
-use Rattle.pe_frame.specs.declared.error.FrameError.{FrameError}
-use Rattle.pe_frame.specs.declared.registers.Registers.{Registers}
-use Rattle.pe_frame.specs.Epilogs.{pop_at, popped_first, after_pops, executed, executed_all}
-use Rattle.pe_frame.specs.Jumps.{before_last, direct_target, target_of}
-use Rattle.pe_frame.specs.Tails.{alone}
+use Rattle.std.proofs.Common.{◌≡◌, ℕ, suc, List, ◌∷◌, ◌++◌, map, drop, Option, Some, None, Result, Ok, refl, ap, arith, rules, []}
+use Rattle.pe_frame.proofs.Cited.{◌>>=◌, then_then, Instruction, Pop, FrameError, Registers, pop_at, popped_first, after_pops, executed}
+use Rattle.pe_frame.proofs.Cited.{executed_all, before_last, direct_target, target_of, alone}
 
 pub after_step : (k n : ℕ) (code : List ℕ) (p : ℕ × ℕ) → k ≡ suc n → pop_at code ≡ Some p → after_pops k code ≡ after_pops n (drop p.1 code)
 unfolding after_pops
@@ -16,8 +9,7 @@ after_step k n code p e f = rw e (rw f refl)
 
 pub after_none : (k : ℕ) (code : List ℕ) → pop_at code ≡ None → after_pops k code ≡ code
 unfolding after_pops
-after_none zero code f = refl
-after_none (suc n) code f = rw f refl
+after_none k code f = grind arith
 
 pub first_step : (k n : ℕ) (code : List ℕ) (p : ℕ × ℕ) → k ≡ suc n → pop_at code ≡ Some p → popped_first k code ≡ p.0 ∷ popped_first n (drop p.1 code)
 unfolding popped_first
@@ -25,8 +17,7 @@ first_step k n code p e f = rw e (rw f refl)
 
 pub first_none : (k : ℕ) (code : List ℕ) → pop_at code ≡ None → popped_first k code ≡ []
 unfolding popped_first
-first_none zero code f = refl
-first_none (suc n) code f = rw f refl
+first_none k code f = grind arith
 
 -- one pop run, and the others after it
 pub pops_step : (m : ℕ → Option ℕ) (k n : ℕ) (code : List ℕ) (p : ℕ × ℕ) (g : Registers) (r : Result Registers FrameError) → k ≡ suc n → pop_at code ≡ Some p → executed m (Pop p.0) g ≡ r →
@@ -46,24 +37,19 @@ pops_all m k code g e = rw e refl
 
 -- steps that are the same after the first one are the same
 pub then_same : {A B : Type 0} (x : Result A FrameError) (f h : A → Result B FrameError) → ((v : A) → f v ≡ h v) → (x >>= f) ≡ (x >>= h)
-then_same (Ok v) f h same = same v
-then_same (Err e) f h same = refl
+then_same x f h same = grind arith
 
 pub then_ok : {A : Type 0} (x : Result A FrameError) → (x >>= λ v. Ok v) ≡ x
-then_ok (Ok v) = refl
-then_ok (Err e) = refl
+then_ok x = grind arith
 
 -- instructions run, and then others
 pub executed_append : (m : ℕ → Option ℕ) (is js : List Instruction) (g : Registers) → executed_all m (is ++ js) g ≡ (executed_all m is g >>= executed_all m js)
 executed_append m [] js g = refl
-executed_append m (i ∷ is) js g =
-    then_same (executed m i g) (executed_all m (is ++ js)) (λ v. executed_all m is v >>= executed_all m js) (λ v. executed_append m is js v)
-    ∙ sym (then_then (executed m i g) (executed_all m is) (executed_all m js))
+executed_append m (i ∷ is) js g = search (rules, arith, then_same, then_then, executed_append m is js)
 
 -- instructions run, and then the last one
 run_end : (m : ℕ → Option ℕ) (is : List Instruction) (e : Instruction) (g : Registers) → executed_all m (is ++ (e ∷ [])) g ≡ (executed_all m is g >>= executed m e)
-run_end m is e g =
-    executed_append m is (e ∷ []) g ∙ then_same (executed_all m is g) (executed_all m (e ∷ [])) (executed m e) (λ w. then_ok (executed m e w))
+run_end m is e g = grind (arith, executed_append, then_same, then_ok)
 
 before_end : (is : List Instruction) (e : Instruction) → before_last (is ++ (e ∷ [])) ≡ is
 before_end [] e = refl
@@ -77,8 +63,7 @@ target_end (i ∷ j ∷ is) e = target_end (j ∷ is) e
 
 -- a tail without the instruction that leaves the function
 pub before_exit : (trim : Option Instruction) (pops : List ℕ) (exit : Instruction) → before_last (alone trim ++ (map Pop pops ++ (exit ∷ []))) ≡ alone trim ++ map Pop pops
-before_exit None pops exit = before_end (map Pop pops) exit
-before_exit (Some i) pops exit = before_end (i ∷ map Pop pops) exit
+before_exit trim pops exit = grind (arith, before_end)
 
 pub exit_target : (trim : Option Instruction) (pops : List ℕ) (exit : Instruction) → target_of (alone trim ++ (map Pop pops ++ (exit ∷ []))) ≡ direct_target exit
 exit_target None pops exit = target_end (map Pop pops) exit
@@ -92,5 +77,4 @@ trim_run m trim pops g = executed_append m (alone trim) (map Pop pops) g
 pub tail_run : (m : ℕ → Option ℕ) (trim : Option Instruction) (pops : List ℕ) (exit : Instruction) (g : Registers) →
     executed_all m (alone trim ++ (map Pop pops ++ (exit ∷ []))) g
     ≡ (executed_all m (before_last (alone trim ++ (map Pop pops ++ (exit ∷ [])))) g >>= executed m exit)
-tail_run m None pops exit g = rw (before_end (map Pop pops) exit) (run_end m (map Pop pops) exit g)
-tail_run m (Some i) pops exit g = rw (before_end (i ∷ map Pop pops) exit) (run_end m (i ∷ map Pop pops) exit g)
+tail_run m trim pops exit g = grind (arith, before_end, run_end)

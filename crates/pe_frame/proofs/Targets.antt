@@ -1,19 +1,7 @@
 -- What the rest of an epilog returns that jumps into a function, by the records of the function.
-use Rattle.std.specs.Option.{is_some}
-use Rattle.std.proofs.Common.{◌≡◌, ℕ, ◌-◌, Bool, false, List, [], ◌∷◌, Option, Some, None, Result, Ok, Err, refl, subst}
-use Rattle.pe_core.specs.Refusals.{Refusal}
-use Rattle.pe_unwind.specs.ExceptionTable.{ExceptionView}
-use Rattle.pe_unwind.specs.Links.{links_with}
-use Rattle.pe_unwind.specs.UnwindRecord.{UnwindInfoView}
-use Rattle.pe_unwind.specs.Unwinding.{Unwinds}
-use Rattle.pe_unwind.specs.declared.function_table.RuntimeFunction.{RuntimeFunction}
-use Rattle.pe_plan.specs.ShortPlans.{PlansShort}
-use Rattle.pe_plan.proofs.ShortPlans.{refused_at_once}
-use Rattle.pe_frame.specs.Epilogs.{run_out}
-use Rattle.pe_frame.specs.Jumps.{LeavesFor, LeavesForFound, place_with}
-use Rattle.pe_frame.specs.declared.epilog.Instruction.{Instruction}
-use Rattle.pe_frame.specs.declared.error.FrameError.{FrameError}
-use Rattle.pe_frame.specs.declared.registers.Registers.{Registers}
+use Rattle.std.proofs.Common.{◌≡◌, ℕ, ◌-◌, Bool, false, List, ◌∷◌, Option, Some, None, Result, Ok, Err, refl, subst, arith, rules, []}
+use Rattle.pe_frame.proofs.Cited.{is_some, Refusal, ExceptionView, links_with, UnwindInfoView, Unwinds, RuntimeFunction, PlansShort}
+use Rattle.pe_frame.proofs.Cited.{refused_at_once, run_out, LeavesFor, LeavesForFound, place_with, Instruction, FrameError, Registers}
 use Rattle.pe_frame.proofs.FunctionSteps.{of_one_record}
 
 -- by all of them
@@ -28,8 +16,7 @@ leaves_by_plan e rva_map a f m rest g offset plan is answer plans at same leaves
 pub leaves_by_one : (e : ExceptionView) (rva_map : ℕ → Option ℕ) (a : ℕ) (f : RuntimeFunction) (m : ℕ → Option ℕ) (rest : List Instruction) (g : Registers) (offset : ℕ) (i : UnwindInfoView) (is : List UnwindInfoView) (answer : Result (Registers × Bool) FrameError) →
     Unwinds (links_with e rva_map) e.content f.unwind_info_address (Ok i) → i.chained_info ≡ None → offset ≡ a - f.begin_address → is ≡ i ∷ [] →
     LeavesFor (Some (place_with offset is)) m rest g answer → LeavesForFound e rva_map a (Some f) m rest g answer
-leaves_by_one e rva_map a f m rest g offset i is answer unwinds none at same leaves =
-    leaves_by_plan e rva_map a f m rest g offset (i ∷ []) is answer (of_one_record (links_with e rva_map) e.content f i unwinds none) at same leaves
+leaves_by_one e rva_map a f m rest g offset i is answer unwinds none at same leaves = search (rules, arith, leaves_by_plan, of_one_record)
 
 -- where the first cannot be read
 pub leaves_refused : (e : ExceptionView) (rva_map : ℕ → Option ℕ) (a : ℕ) (f : RuntimeFunction) (m : ℕ → Option ℕ) (rest : List Instruction) (g : Registers) (refusal : Refusal) (answer : Result (Registers × Bool) FrameError) →
@@ -39,5 +26,4 @@ leaves_refused e rva_map a f m rest g refusal answer unwinds is =
 
 -- a record that is chained to none, as it is tested
 pub none_chained : (f : Option RuntimeFunction) → is_some f ≡ false → f ≡ None
-none_chained None e = refl
-none_chained (Some f) e = cc
+none_chained f e = grind arith

@@ -1,6 +1,5 @@
-use Rattle.std.proofs.Common.{◌+◌, ◌-◌, Ok, Err, sym, ◌∙◌, arith}
-use Rattle.std.proofs.lemmas.List.{take_rest}
-use Rattle.std.proofs.lemmas.Result.{err_from_is_err_and}
+use Rattle.std.proofs.Common.{◌+◌, ◌-◌, Ok, Err, sym, ◌∙◌, arith, rules}
+use Rattle.pe_frame.proofs.Cited.{take_rest, err_from_is_err_and}
 use Rattle.pe_frame.proofs.Tails.{pops_step, pops_none, pops_all}
 use Rattle.pe_frame.proofs.epilog.execute_pops.Goals as goal
 
@@ -19,8 +18,7 @@ returns-in_err-execute-in-Some g c =
     ∙ c.loop.invariant)
 
 pub returns-in-None : goal.returns-in-None
-returns-in-None g c =
-    sym (pops_none (g.M.Memory.word c.args.memory.now) (16 - c.loop.counter) c.loop.rest.now c.loop.registers (sym c.pop_at.ensures.value ∙ c.in-None.is)) ∙ c.loop.invariant
+returns-in-None g c = search (rules, arith, pops_none)
 
 pub returns : goal.returns
 returns g c = sym (pops_all (g.M.Memory.word c.args.memory.now) (16 - c.loop.counter) c.loop.rest.now c.loop.registers (omega arith)) ∙ c.loop.invariant

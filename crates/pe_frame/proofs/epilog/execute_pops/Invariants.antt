@@ -1,6 +1,5 @@
 use Rattle.std.proofs.Common.{◌≡◌, ◌-◌, map}
-use Rattle.pe_frame.specs.declared.epilog.Instruction.TheVariants.{Pop}
-use Rattle.pe_frame.specs.Epilogs.{popped_first, most_pops, executed_all}
+use Rattle.pe_frame.proofs.Cited.{Pop, popped_first, most_pops, executed_all}
 use Rattle.pe_frame.proofs.epilog.execute_pops.Given as goal
 
 -- what the pops that are left give is what all give

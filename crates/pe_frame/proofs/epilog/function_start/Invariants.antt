@@ -1,6 +1,5 @@
 use Rattle.std.proofs.Common.{◌≡◌, map, drop}
-use Rattle.pe_unwind.specs.UnwindRecord.{unwind_view}
-use Rattle.pe_frame.specs.Epilogs.{function_start}
+use Rattle.pe_frame.proofs.Cited.{unwind_view, function_start}
 use Rattle.pe_frame.proofs.epilog.function_start.Given as goal
 
 -- the start so far, and what the other records make of it

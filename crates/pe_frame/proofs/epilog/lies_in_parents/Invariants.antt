@@ -1,6 +1,5 @@
 use Rattle.std.proofs.Common.{◌≡◌, map, drop}
-use Rattle.pe_unwind.specs.UnwindRecord.{unwind_view}
-use Rattle.pe_frame.specs.Epilogs.{lies_in_parents}
+use Rattle.pe_frame.proofs.Cited.{unwind_view, lies_in_parents}
 use Rattle.pe_frame.proofs.epilog.lies_in_parents.Given as goal
 
 -- the records so far have no such parent

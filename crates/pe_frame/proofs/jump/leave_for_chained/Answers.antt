@@ -1,11 +1,5 @@
 use Rattle.std.proofs.Common.{map, Option, Ok, subst}
-use Rattle.std.specs.Option.{option_map}
-use Rattle.pe_unwind.specs.Links.{links_with}
-use Rattle.pe_unwind.specs.UnwindRecord.{unwind_view}
-use Rattle.pe_plan.specs.ShortPlans.{PlansShort, records_of}
-use Rattle.pe_plan.specs.declared.short_plan.ShortPlan.{ShortPlan}
-use Rattle.pe_frame.specs.InPlace.{changed_with}
-use Rattle.pe_frame.specs.Tails.{instructions_of}
+use Rattle.pe_frame.proofs.Cited.{option_map, links_with, unwind_view, PlansShort, records_of, ShortPlan, changed_with, instructions_of}
 use Rattle.pe_frame.proofs.Targets.{leaves_by_plan}
 use Rattle.pe_frame.proofs.jump.leave_for_chained.Goals as goal
 

@@ -1,10 +1,5 @@
-use Rattle.std.proofs.Common.{◌≡◌, List, [], ◌∷◌, map, false, ap}
-use Rattle.std.specs.Option.{is_some}
-use Rattle.pe_core.specs.Refusals.{kind_of}
-use Rattle.pe_unwind.specs.UnwindRecord.{unwind_view}
-use Rattle.pe_unwind.specs.declared.unwind_info.UnwindInfo.{UnwindInfo}
-use Rattle.pe_frame.specs.InPlace.{changed_with}
-use Rattle.pe_frame.specs.Tails.{instructions_of}
+use Rattle.std.proofs.Common.{◌≡◌, List, ◌∷◌, map, false, ap, []}
+use Rattle.pe_frame.proofs.Cited.{is_some, kind_of, unwind_view, UnwindInfo, changed_with, instructions_of}
 use Rattle.pe_frame.proofs.Targets.{leaves_by_one, leaves_refused, none_chained}
 use Rattle.pe_frame.proofs.jump.leave_for_function.Goals as goal
 

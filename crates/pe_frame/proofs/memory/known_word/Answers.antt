@@ -1,12 +1,7 @@
-use Rattle.std.proofs.Common.{◌∙◌, ap, sym, arith, Some, take, length-set}
+use Rattle.std.proofs.Common.{arith, length-set, rules}
 use Rattle.std.proofs.lemmas.List.{take_more_set}
 use Rattle.pe_frame.proofs.Pieces.{byte_more}
 use Rattle.pe_frame.proofs.memory.known_word.Goals as goal
 
 pub loop-index-preserved : goal.loop-index-preserved
-loop-index-preserved g c =
-    let kept = c.loop-index.invariant in (
-      rw length-set kept.0,
-      byte_more (g.B.KnownBytes.byte c.args.memory.now) c.args.address c.loop-index.index c.in_ok-bytes.field-0 (take c.loop-index.index c.loop-index.bytes) kept.1 (sym c.in_ok-bytes.ensures)
-          ∙ ap (λ bs. Some bs) (sym (take_more_set c.loop-index.bytes c.loop-index.index c.in_ok-bytes.field-0 (omega (arith, kept.0)))),
-    )
+loop-index-preserved g c = search (rules, arith, length-set, byte_more, take_more_set)

@@ -1,4 +1,4 @@
-use Rattle.std.proofs.Common.{◌≡◌, ℕ, ◌+◌, ◌-◌, ◌<◌, ◌^◌, IfSome}
+use Rattle.std.proofs.Common.{◌≡◌, ◌+◌, ◌-◌, ◌<◌, ◌^◌, IfSome}
 use Rattle.pe_frame.specs.Scans.{higher_call, highest_call, most_words}
 use Rattle.pe_frame.proofs.scan.highest_call.Given as goal
 

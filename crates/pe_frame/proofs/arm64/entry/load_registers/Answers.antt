@@ -1,6 +1,5 @@
-use Rattle.std.proofs.Common.{◌-◌, Ok, Err, sym, ◌∙◌, arith}
-use Rattle.std.proofs.lemmas.Result.{err_from_is_err_and}
-use Rattle.pe_frame.specs.Arm64Undoing.{context_offset, context_register}
+use Rattle.std.proofs.Common.{◌-◌, Ok, Err, sym, ◌∙◌, arith, rules}
+use Rattle.pe_frame.proofs.Cited.{err_from_is_err_and, context_offset, context_register}
 use Rattle.pe_frame.proofs.Arm64Entries.{loaded_as, stores_more, stores_none}
 use Rattle.pe_frame.proofs.arm64.entry.load_registers.Goals as goal
 
@@ -25,6 +24,4 @@ returns-in_err-load g c =
     ∙ c.loop-count.invariant.loads)
 
 pub returns : goal.returns
-returns g c =
-    sym (stores_none (g.M.Memory.word c.args.memory.now) c.loop-count.count c.loop-count.registers (omega (arith, c.loop-count-test.false)))
-    ∙ c.loop-count.invariant.loads
+returns g c = search (rules, arith, stores_none)

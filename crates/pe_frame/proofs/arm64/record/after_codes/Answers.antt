@@ -1,11 +1,10 @@
+use Rattle.std.proofs.Common.{arith, rules}
 use Rattle.std.proofs.lemmas.List.{take_rest}
 use Rattle.pe_frame.proofs.Arm64Calls.{drops_more, drops_all, drops_none}
 use Rattle.pe_frame.proofs.arm64.record.after_codes.Goals as goal
 
 pub loop-preserved : goal.loop-preserved
-loop-preserved c =
-    rw (take_rest c.loop.rest.now c.in-Ok-Some.size)
-    (drops_more c.args.codes.now c.loop.rest.now _ c.in-Ok-Some.size c.loop.counter (rw c.in-Ok-Some.field-0-is at c.in-Ok-Some.ensures) c.loop.invariant)
+loop-preserved c = search (rules, arith, take_rest, drops_more)
 
 pub returns-in-Ok-None : goal.returns-in-Ok-None
 returns-in-Ok-None c =

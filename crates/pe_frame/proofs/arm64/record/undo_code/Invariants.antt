@@ -1,6 +1,5 @@
-use Rattle.std.proofs.Common.{◌≡◌, [], ◌∷◌}
-use Rattle.pe_frame.specs.Arm64Undoing.{undone_codes}
-use Rattle.pe_frame.specs.Arm64Reading.{with_nexts}
+use Rattle.std.proofs.Common.{◌≡◌, ◌∷◌, []}
+use Rattle.pe_frame.proofs.Cited.{undone_codes, with_nexts}
 use Rattle.pe_frame.proofs.arm64.record.undo_code.Given as goal
 
 -- undoing those that are left is undoing all

@@ -1,6 +1,5 @@
 use Rattle.std.proofs.Common.{sym, ◌∙◌, arith}
-use Rattle.std.proofs.lemmas.List.{take_rest, length-drop}
-use Rattle.std.proofs.lemmas.Result.{err_from_is_err_and}
+use Rattle.pe_frame.proofs.Cited.{take_rest, length-drop, err_from_is_err_and}
 use Rattle.pe_frame.proofs.Arm64Calls.{undoing_next, undoing_code, undoing_refused, undoing_never, undoing_none, undoing_nexts}
 use Rattle.pe_frame.proofs.arm64.record.undo_codes.Goals as goal
 

@@ -1,6 +1,5 @@
 use Rattle.std.proofs.Common.{suc, drop, Err, drop-cons}
-use Rattle.std.proofs.lemmas.Result.{err_from_is_err_and}
-use Rattle.pe_frame.specs.Arm64Undoing.{undone_codes}
+use Rattle.pe_frame.proofs.Cited.{err_from_is_err_and, undone_codes}
 use Rattle.pe_frame.proofs.Arm64Calls.{undone_first}
 use Rattle.pe_frame.proofs.arm64.record.undo_each.Goals as goal
 

@@ -1,6 +1,5 @@
 use Rattle.std.proofs.Common.{ℕ, List, drop, Some, None, subst}
-use Rattle.pe_unwind.specs.Arm64Record.{info_view}
-use Rattle.pe_frame.specs.Arm64Steps.{CodesThen, AreOver}
+use Rattle.pe_frame.proofs.Cited.{info_view, CodesThen, AreOver}
 use Rattle.pe_frame.proofs.Arm64Places.{read_codes, step_by, step_ran}
 use Rattle.pe_frame.proofs.arm64.step.caller.Goals as goal
 

@@ -1,8 +1,5 @@
 use Rattle.std.proofs.Common.{◌≡◌, ◌-◌, ◌∙◌, ℕ, List, drop, ap, sym, subst, arith}
-use Rattle.pe_unwind.specs.declared.arm64.codes.Arm64UnwindCode.{Arm64UnwindCode}
-use Rattle.pe_unwind.specs.Arm64Record.{info_view}
-use Rattle.pe_frame.specs.Arm64Undoing.{caller_by_codes}
-use Rattle.pe_frame.specs.Arm64Steps.{CodesThen, AreOver}
+use Rattle.pe_frame.proofs.Cited.{Arm64UnwindCode, info_view, caller_by_codes, CodesThen, AreOver}
 use Rattle.pe_frame.proofs.Arm64Places.{read_codes, left_yes, left_no, step_in}
 use Rattle.pe_frame.proofs.arm64.step.caller_after.Goals as goal
 

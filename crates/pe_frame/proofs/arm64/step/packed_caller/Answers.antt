@@ -1,9 +1,5 @@
-use Rattle.std.proofs.Common.{◌≡◌, ◌≤◌, ◌||◌, ◌==◌, nat_lt, ℕ, [], List, length, true, sym, ap, ◌∙◌, subst}
-use Rattle.pe_unwind.specs.declared.arm64.codes.Arm64UnwindCode.{Arm64UnwindCode}
-use Rattle.pe_unwind.specs.Arm64Words.{bits}
-use Rattle.pe_frame.specs.Arm64Undoing.{caller_by_list}
-use Rattle.pe_frame.specs.Arm64CodeLists.{Adds}
-use Rattle.pe_frame.specs.Arm64Packed.{packed_codes, is_canonical}
+use Rattle.std.proofs.Common.{◌≡◌, ◌≤◌, ◌||◌, ◌==◌, nat_lt, ℕ, List, length, true, sym, ap, ◌∙◌, subst, []}
+use Rattle.pe_frame.proofs.Cited.{Arm64UnwindCode, bits, caller_by_list, Adds, packed_codes, is_canonical}
 use Rattle.pe_frame.proofs.Arm64Packed.{packed_whole, packed_alone, whole_alone, rest_alone, left_before, left_later, canonical_step, not_true, not_false}
 use Rattle.pe_frame.proofs.arm64.step.packed_caller.Goals as goal
 

@@ -1,8 +1,5 @@
-use Rattle.std.proofs.Common.{◌≡◌, ◌≤◌, ◌∙◌, ℕ, [], List, length, true, ap, sym, subst, arith}
-use Rattle.pe_unwind.specs.declared.arm64.codes.Arm64UnwindCode.{Arm64UnwindCode}
-use Rattle.pe_frame.specs.Arm64Undoing.{caller_by_list}
-use Rattle.pe_frame.specs.Arm64CodeLists.{Adds}
-use Rattle.pe_frame.specs.Arm64Packed.{packed_frame, epilog_codes, is_canonical}
+use Rattle.std.proofs.Common.{◌≡◌, ◌≤◌, ◌∙◌, ℕ, List, length, true, ap, sym, subst, arith, []}
+use Rattle.pe_frame.proofs.Cited.{Arm64UnwindCode, caller_by_list, Adds, packed_frame, epilog_codes, is_canonical}
 use Rattle.pe_frame.proofs.Arm64Packed.{epilog_whole, epilog_alone, rest_alone, after_yes, after_no}
 use Rattle.pe_frame.proofs.arm64.step.packed_caller_after.Goals as goal
 

@@ -1,8 +1,5 @@
 use Rattle.std.proofs.Common.{◌/◌, ◌-◌, Result, subst, sym}
-use Rattle.pe_unwind.specs.Arm64Record.{info_view}
-use Rattle.pe_frame.specs.Arm64Steps.{StepsArm64}
-use Rattle.pe_frame.specs.declared.arm64.registers.Arm64Registers.{Arm64Registers}
-use Rattle.pe_frame.specs.declared.error.FrameError.{FrameError}
+use Rattle.pe_frame.proofs.Cited.{info_view, StepsArm64, Arm64Registers, FrameError}
 use Rattle.pe_frame.proofs.Arm64Frames.{arm64_caller}
 use Rattle.pe_frame.proofs.Arm64Streams.{registers_of_arm64_step}
 use Rattle.pe_frame.proofs.arm64.step.step_arm64.Goals as goal

@@ -1,15 +1,11 @@
-use Rattle.std.proofs.Common.{Ok, Err, refl}
-use Rattle.std.proofs.lemmas.Result.{err_from_is_err_and}
-use Rattle.pe_frame.specs.Arm64Operations.{store_some}
-use Rattle.pe_frame.specs.InPlace.{changed}
+use Rattle.std.proofs.Common.{Err, refl, arith}
+use Rattle.pe_frame.proofs.Cited.{err_from_is_err_and, store_some}
+use Rattle.std.proofs.lemmas.Grind.{common_steps}
 use Rattle.pe_frame.proofs.Arm64Effects.{both_reverted, first_refused}
 use Rattle.pe_frame.proofs.arm64.undo.load_each.Goals as goal
 
 pub returns : goal.returns
-returns g c =
-    let m = g.M.Memory.word c.args.memory.now in
-    let one = c.load_some.new.registers in
-    both_reverted m (store_some c.args.first.register c.args.first.offset) (store_some c.args.second.register c.args.second.offset) c.args.registers.now one (Ok one) (changed c.load_some-2.result c.load_some-2.new.registers) c.in_ok-load_some.ensures refl c.load_some-2.ensures
+returns g c = grind (arith, common_steps, both_reverted)
 
 pub returns-in_err-load_some : goal.returns-in_err-load_some
 returns-in_err-load_some g c =

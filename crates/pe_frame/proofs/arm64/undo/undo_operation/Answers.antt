@@ -1,8 +1,5 @@
-use Rattle.std.proofs.Common.{ℕ, [], ◌∷◌, Ok, refl, ap, ◌∙◌}
-use Rattle.pe_frame.specs.declared.arm64.operation.Arm64Operation.TheVariants.{Allocate, Save, SaveEach, SetFrame}
-use Rattle.pe_frame.specs.Arm64Operations.{Lower, Store}
-use Rattle.pe_frame.specs.Arm64Undoing.{reverted}
-use Rattle.pe_frame.specs.InPlace.{changed}
+use Rattle.std.proofs.Common.{ℕ, ◌∷◌, Ok, refl, ap, ◌∙◌, arith, rules, []}
+use Rattle.pe_frame.proofs.Cited.{Allocate, Save, SetFrame, Lower, Store, reverted, changed}
 use Rattle.pe_frame.proofs.Arm64Effects.{first_reverted, effects_are}
 use Rattle.pe_frame.proofs.arm64.undo.undo_operation.Goals as goal
 
@@ -26,7 +23,4 @@ returns-in-SetFrame g c =
     effects_are m c.args.operation (SetFrame c.in-SetFrame.offset) c.args.registers.now (changed c.lower_to_frame.result c.lower_to_frame.new.registers) c.in-SetFrame.is (c.lower_to_frame.ensures m)
 
 pub returns-in-SaveEach : goal.returns-in-SaveEach
-returns-in-SaveEach g c =
-    let m = g.M.Memory.word c.args.memory.now in
-    let e = c.in-SaveEach in
-    effects_are m c.args.operation (SaveEach e.first e.second e.offset e.apart) c.args.registers.now (changed c.undo_save_each.result c.undo_save_each.new.registers) e.is c.undo_save_each.ensures
+returns-in-SaveEach g c = search (rules, arith, effects_are)

@@ -1,6 +1,5 @@
-use Rattle.std.proofs.Common.{◌+◌, [], ◌∷◌, Ok, refl}
-use Rattle.pe_frame.specs.Arm64Operations.{Lower, Store}
-use Rattle.pe_frame.specs.InPlace.{changed}
+use Rattle.std.proofs.Common.{◌+◌, ◌∷◌, Ok, refl, []}
+use Rattle.pe_frame.proofs.Cited.{Lower, Store, changed}
 use Rattle.pe_frame.proofs.Arm64Effects.{first_reverted}
 use Rattle.pe_frame.proofs.arm64.undo.undo_pair.Goals as goal
 

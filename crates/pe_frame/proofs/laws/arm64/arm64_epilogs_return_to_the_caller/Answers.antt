@@ -1,16 +1,9 @@
-use Rattle.pe_core.specs.Refusals.{◌>>=◌}
-use Rattle.std.proofs.Common.{◌≡◌, ℕ, ◌+◌, ◌-◌, ◌≤◌, List, [], ◌∷◌, ◌++◌, take, drop, Option, Some, Result, Ok, refl, ap, sym, ◌∙◌, subst, append_assoc, arith}
-use Rattle.std.proofs.lemmas.List.{take-append-drop, get_or-set_same}
-use Rattle.pe_unwind.specs.Arm64Record.{Arm64InfoView}
-use Rattle.pe_frame.specs.declared.arm64.operation.Arm64Operation.{Arm64Operation}
-use Rattle.pe_frame.specs.declared.arm64.operation.Arm64Register.TheVariants.{X}
-use Rattle.pe_frame.specs.declared.arm64.registers.Arm64Registers.{Arm64Registers}
-use Rattle.pe_frame.specs.declared.error.FrameError.{FrameError}
-use Rattle.pe_frame.specs.Arm64Operations.{Arm64Effect, Lower, Store, SetFramePointer, SignLink, effects_of, all_effects}
-use Rattle.pe_frame.specs.Arm64Undoing.{frame_pointer, link_register, put_pc, put_saved, put_sp, stripped, reverted, reverted_all, undone_codes, returned_arm64}
-use Rattle.pe_frame.specs.Arm64Steps.{prolog_length, Leaves, StepsArm64}
-use Rattle.pe_frame.specs.Arm64Machine.{Arm64Machine, held, caused, run_arm64, sets_frame_pointer, KeepsStackPointerArm64, IsArm64Prolog, IsArm64Caller}
-use Rattle.pe_frame.specs.Arm64Frames.{Arm64Part, effects_at, IsArm64Frame}
+use Rattle.std.proofs.Common.{◌≡◌, ℕ, ◌+◌, ◌-◌, ◌≤◌, List, ◌∷◌, ◌++◌, take, drop, Option, Some, Result, Ok, refl, ap, sym, ◌∙◌, subst, append_assoc, arith, rules, []}
+use Rattle.pe_frame.proofs.Cited.{◌>>=◌, take-append-drop, get_or-set_same, Arm64InfoView, Arm64Operation, X, Arm64Registers, FrameError}
+use Rattle.pe_frame.proofs.Cited.{Arm64Effect, Lower, Store, SetFramePointer, SignLink, effects_of, all_effects, frame_pointer}
+use Rattle.pe_frame.proofs.Cited.{link_register, put_pc, put_saved, put_sp, stripped, reverted, reverted_all, undone_codes, returned_arm64}
+use Rattle.pe_frame.proofs.Cited.{prolog_length, Leaves, StepsArm64, Arm64Machine, held, caused, run_arm64, sets_frame_pointer}
+use Rattle.pe_frame.proofs.Cited.{KeepsStackPointerArm64, IsArm64Prolog, IsArm64Caller, Arm64Part, effects_at, IsArm64Frame}
 use Rattle.pe_frame.proofs.Arm64Streams.{step_by_codes}
 use Rattle.pe_frame.proofs.Arm64Effects.{reverted-append, undone-effects, operations-drop, prolog-drop}
 use Rattle.pe_frame.proofs.Arm64Runs.{Holds, entered, count, holds, known, sinks}
@@ -28,19 +21,13 @@ then_left m e a g next mid is all = sym (ap (λ (r : Result Arm64Registers Frame
 -- the stack pointer in an epilog is not above where it was at the function's entry
 middle : (m : ℕ → Option ℕ) (a b : List Arm64Effect) (s : Arm64Machine) (g mid : Arm64Registers) → IsArm64Prolog (a ++ b) s → Holds (λ x v. m x ≡ Some v) (a ++ b) s →
     KeepsStackPointerArm64 (sets_frame_pointer (a ++ b)) (a ++ b) (run_arm64 (a ++ b) s) g → reverted_all m a g ≡ Ok mid → mid.sp ≤ s.sp
-middle m [] b s g mid p h k e =
-    let le = keeps_le (sets_frame_pointer b) b (run_arm64 b s) g k in
-    let low = sinks b s p in
-    let same : g.sp ≡ mid.sp = ap (λ (u : Arm64Registers). u.sp) (ok_same g mid e) in
-    omega (arith, le, low, same)
+middle m [] b s g mid p h k e = search (rules, arith, keeps_le, sinks, ok_same)
 middle m (Lower n ∷ a) b s g mid p h k e =
     let before = a ++ b in
     let t = run_arm64 before s in
     let le : g.sp ≤ t.sp - n = keeps_le (sets_frame_pointer before) (Lower n ∷ before) (caused (Lower n) t) g k in
-    let low = sinks before s p.1 in
-    let small = (entered before s p.1).stack in
     let next = put_sp g (g.sp + n) in
-    let step = lowered_ok m n g (omega (arith, le, low, small, p.0)) in
+    let step = lowered_ok m n g (omega (arith, le, sinks before s p.1, (entered before s p.1).stack, p.0)) in
     middle m a b s next mid p.1 h (keeps_lowered (sets_frame_pointer before) n before t g p.0 k) (then_left m (Lower n) a g next mid step e)
 middle m (Store r o ∷ a) b s g mid p h k e =
     let before = a ++ b in
@@ -48,16 +35,13 @@ middle m (Store r o ∷ a) b s g mid p h k e =
     let at : g.sp ≡ t.sp = keeps_at_store (sets_frame_pointer before) r o before (caused (Store r o) t) g k in
     let v = held t r in
     let next = put_saved g r v in
-    let word : m (g.sp + o) ≡ Some v = ap (λ (x : ℕ). m (x + o)) at ∙ h.0 in
-    let step = stored_ok m r o v g (omega (arith, at, p.0.2)) word in
+    let step = stored_ok m r o v g (omega (arith, at, p.0.2)) (ap (λ (x : ℕ). m (x + o)) at ∙ h.0) in
     middle m a b s next mid p.1 h.1 (keeps_stored (sets_frame_pointer before) r o v before t g p.0.1 k) (then_left m (Store r o) a g next mid step e)
 middle m (SetFramePointer n ∷ a) b s g mid p h k e =
     let before = a ++ b in
     let t = run_arm64 before s in
-    let many = count before s p.1 in
-    let frame : frame_pointer g ≡ t.sp + n = k.2 ∙ get_or-set_same t.general 29 (t.sp + n) 0 (omega (arith, many)) in
     let next = put_sp g t.sp in
-    let step = framed_ok m n t.sp g frame in
+    let step = framed_ok m n t.sp g (k.2 ∙ get_or-set_same t.general 29 (t.sp + n) 0 (omega (arith, count before s p.1))) in
     middle m a b s next mid p.1 h (keeps_exact (sets_frame_pointer before) before t next p.0.0 refl) (then_left m (SetFramePointer n) a g next mid step e)
 middle m (SignLink ∷ a) b s g mid p h k e =
     let before = a ++ b in

@@ -1,6 +1,5 @@
 use Rattle.std.proofs.Common.{◌-◌}
-use Rattle.pe_plan.proofs.RecordLaw.{RecordLaw}
-use Rattle.pe_frame.specs.Epilogs.{epilog_at}
+use Rattle.pe_frame.proofs.Cited.{RecordLaw, epilog_at}
 use Rattle.pe_frame.proofs.Jumps.{one_in_image, some_in_image}
 use Rattle.pe_frame.proofs.laws.jumps.one_result_of_steps_in_images.Goals as goal
 

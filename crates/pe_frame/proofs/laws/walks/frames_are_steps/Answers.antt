@@ -1,18 +1,7 @@
-use Rattle.std.proofs.Common.{◌≡◌, ℕ, ◌-◌, Bool, true, false, cond, List, [], Option, Some, None, Result, Ok, Err, refl, ap, sym, subst}
-use Rattle.pe_unwind.specs.ExceptionTable.{ExceptionView}
-use Rattle.pe_unwind.specs.UnwindRecord.{UnwindInfoView}
-use Rattle.pe_unwind.specs.declared.function_table.RuntimeFunction.{RuntimeFunction}
-use Rattle.pe_frame.specs.Epilogs.{epilog_at}
-use Rattle.pe_frame.specs.Jumps.{StepsInImage, StepsInImageFrom}
-use Rattle.pe_frame.specs.Steps.{Steps, registers_alone}
-use Rattle.pe_frame.specs.Walks.{CallsByPlan, code_of_frame, end_at_0, frame_after, frame_of, is_bottom}
-use Rattle.pe_frame.specs.declared.error.FrameError.{FrameError}
-use Rattle.pe_frame.specs.declared.epilog.Instruction.{Instruction}
-use Rattle.pe_frame.specs.declared.modules.Module.{Module}
-use Rattle.pe_frame.specs.declared.registers.Registers.{Registers}
-use Rattle.pe_frame.specs.declared.walk.StackFrame.{StackFrame}
-use Rattle.pe_frame.specs.declared.walk.Way.TheVariants.{Records, Interrupt}
-use Rattle.pe_frame.specs.Modules.{map_of_module}
+use Rattle.std.proofs.Common.{◌≡◌, ℕ, ◌-◌, Bool, true, cond, List, Option, Some, None, Result, Ok, Err, refl, subst, arith, rules, []}
+use Rattle.pe_frame.proofs.Cited.{ExceptionView, UnwindInfoView, RuntimeFunction, epilog_at, StepsInImage, StepsInImageFrom, Steps}
+use Rattle.pe_frame.proofs.Cited.{registers_alone, CallsByPlan, code_of_frame, end_at_0, frame_after, frame_of, FrameError, Instruction}
+use Rattle.pe_frame.proofs.Cited.{Module, Registers, StackFrame, Records, map_of_module}
 use Rattle.pe_frame.proofs.NoCode.{no_epilog}
 use Rattle.pe_frame.proofs.Jumps.{ok_alone}
 use Rattle.pe_frame.proofs.StepsOut.{registers_of_step}
@@ -22,17 +11,10 @@ use Rattle.pe_frame.proofs.laws.walks.frames_are_steps.Goals as goal
 
 -- a frame of records, unless it is the bottom
 kept : (modules : List Module) (guess : Bool) (u : Registers) (t : StackFrame) (bottom : Bool) → Ok t ≡ cond bottom (Err (end_at_0 guess)) (Ok (frame_of modules Records guess u)) → u ≡ t.registers
-kept modules guess u t true is = absurd (cc is)
-kept modules guess u t false is =
-    let same : t ≡ frame_of modules Records guess u = cc is in
-    ap (λ (s : StackFrame). s.registers) (sym same)
+kept modules guess u t bottom is = search (rules, arith)
 
 registers_left : (memory : ℕ → Option ℕ) (modules : List Module) (guess : Bool) (left : Result (Registers × Bool) FrameError) (t : StackFrame) → Ok t ≡ frame_after memory modules guess left → registers_alone left ≡ Ok t.registers
-registers_left memory modules guess (Ok (u, true)) t is =
-    let same : t ≡ frame_of modules Interrupt guess u = cc is in
-    ap (λ (s : StackFrame). Ok s.registers) (sym same)
-registers_left memory modules guess (Ok (u, false)) t is = ap (λ (g : Registers). Ok g) (kept modules guess u t (is_bottom memory modules u) is)
-registers_left memory modules guess (Err e) t is = absurd (cc is)
+registers_left memory modules guess left t is = search (rules, arith, kept)
 
 frame_is_step : (memory : ℕ → Option ℕ) (modules : List Module) (m : Module) (e : ExceptionView) (f : RuntimeFunction) (s t : StackFrame) (plan : List UnwindInfoView) → CallsByPlan memory modules m e f s (Ok (Some plan)) (Ok t) →
     (interrupted : Bool) × StepsInImage e (map_of_module m e) memory plan f.begin_address ((s.registers).rip - m.base) (code_of_frame m e f.end_address s) s.registers (Ok (t.registers, interrupted))

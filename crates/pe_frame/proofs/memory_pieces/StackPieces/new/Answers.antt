@@ -1,7 +1,5 @@
 use Rattle.std.proofs.Common.{◌≡◌, rules, true}
-use Rattle.std.specs.Option.{is_none}
-use Rattle.pe_frame.specs.MemoryPieces.{piece_size}
-use Rattle.pe_lookup.proofs.Lookups.{ascends}
+use Rattle.pe_frame.proofs.Cited.{is_none, piece_size, ascends}
 use Rattle.pe_frame.proofs.memory_pieces.StackPieces.new.Goals as goal
 
 pub invariant_of-result : goal.invariant_of-result

@@ -1,6 +1,5 @@
 use Rattle.std.proofs.Common.{◌≡◌, true, sym, ◌∙◌, arith}
-use Rattle.std.proofs.lemmas.Bool.Decides.{nat_tests}
-use Rattle.pe_frame.specs.MemoryLists.{has_word}
+use Rattle.pe_frame.proofs.Cited.{nat_tests, has_word}
 use Rattle.pe_frame.proofs.Searches.{shown}
 use Rattle.pe_frame.proofs.searched_memory.SearchedMemoryMemory.u64_at.Goals as goal
 

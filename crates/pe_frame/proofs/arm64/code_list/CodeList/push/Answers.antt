@@ -1,4 +1,4 @@
-use Rattle.std.proofs.Common.{◌≡◌, [], ◌∷◌, ◌≤◌, length, sym, ap, ◌∙◌, arith, length-take-le, rules}
+use Rattle.std.proofs.Common.{◌≡◌, ◌∷◌, ◌≤◌, length, sym, ap, ◌∙◌, arith, length-take-le, rules, []}
 use Rattle.pe_frame.proofs.Arm64CodeLists.{full_adds}
 use Rattle.pe_frame.proofs.arm64.code_list.CodeList.push.Goals as goal
 

@@ -1,7 +1,5 @@
 use Rattle.std.proofs.Common.{◌≡◌, ◌/◌, ◌≤◌, List, ◌++◌}
-use Rattle.pe_unwind.specs.declared.arm64.codes.Arm64UnwindCode.{Arm64UnwindCode}
-use Rattle.pe_frame.specs.Arm64CodeLists.{extended}
-use Rattle.pe_frame.specs.Arm64Packed.{integer_pairs}
+use Rattle.pe_frame.proofs.Cited.{Arm64UnwindCode, extended, integer_pairs}
 use Rattle.pe_frame.proofs.arm64.packed.PackedFrame.push_integer_pairs.Given as goal
 
 -- adding those that are left is adding all
