@@ -1,16 +1,10 @@
 -- A walk over entries of one width returns all of them.
 use Rattle.std.proofs.Common.{◌≡◌, ℕ, zero, suc, ◌+◌, ◌-◌, ◌<◌, ◌≤◌, Bool, true, false, List, [], ◌∷◌, length, Some, None, Result, Ok, Err, refl, sym, ap, subst, ◌∙◌, arith}
-use Rattle.std.specs.Prelude.{◌==◌, nat_lt}
-use Rattle.std.proofs.lemmas.Bool.Decides.{nat_tests}
-use Rattle.pe_core.proofs.Ranges.{length_range, rest_of_range}
+use Rattle.calls_base.proofs.Cited.{◌==◌, nat_lt, nat_tests, length_range, rest_of_range, holds, range, Refusal, Short, range_after}
+use Rattle.calls_base.proofs.Cited.{ReturnsItems, IsOver, Range}
 use Rattle.pe_core.specs.Rows.{ReadsAfter, entry_items}
 use Rattle.pe_core.proofs.EntryItems.{entry_items_more, entry_items_none, entry_items_cut}
-use Rattle.pe_core.specs.Bytes.{holds, range}
-use Rattle.pe_core.specs.Refusals.{Refusal, Short}
-use Rattle.calls_base.specs.Ranges.{range_after}
-use Rattle.calls_base.specs.Runs.{ReturnsItems, IsOver}
 use Rattle.calls_base.specs.Walks.{StepsEntries, walk_items, left_entry}
-use Rattle.calls_base.specs.declared.ranges.Range.{Range}
 
 -- ---- one step
 

@@ -1,7 +1,6 @@
 -- Lists that are filled by the steps of a walk.
 use Rattle.std.proofs.Common.{◌≡◌, ℕ, ◌+◌, ◌<◌, ◌≤◌, Bool, true, false, List, [], ◌∷◌, ◌++◌, length, take, drop, slice_set, Option, Some, Result, Ok, Err, refl, sym, ap, subst, ◌∙◌, arith}
-use Rattle.std.proofs.lemmas.Grind.{drop_more_same}
-use Rattle.std.proofs.lemmas.List.{drop-set-lt, length-take-le, take-append-drop, take_more_set}
+use Rattle.calls_base.proofs.Cited.{drop_more_same, drop-set-lt, length-take-le, take-append-drop, take_more_set}
 use Rattle.calls_base.specs.Lists.{HandsOutListIf, Lists, Numbered, PutsList, Stops, Takes}
 
 -- ---- the loop

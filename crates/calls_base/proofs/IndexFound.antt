@@ -1,17 +1,9 @@
 -- What the number in an index names: the first section that covers an RVA.
 use Rattle.std.proofs.Common.{◌≡◌, ℕ, suc, ◌+◌, ◌-◌, ◌^◌, ◌<◌, ◌⊎◌, inl, inr, Bool, true, false, cond, List, [], ◌∷◌, length, take, drop, get_or, filter, Some, None, refl, arith}
-use Rattle.std.specs.Prelude.{nat_eq}
-use Rattle.std.specs.List.{position_or_len}
-use Rattle.std.proofs.lemmas.Bool.Decides.{nat_tests}
-use Rattle.pe_core.specs.declared.section_table.SectionTable.{SectionTable}
-use Rattle.pe_core.specs.RangeIndexes.{first_number, number_at, Rises}
-use Rattle.pe_core.specs.SectionMap.{covers, first, reach}
+use Rattle.calls_base.proofs.Cited.{nat_eq, position_or_len, nat_tests, SectionTable, first_number, number_at, Rises, covers, first, reach}
+use Rattle.calls_base.proofs.Cited.{count_of, searched, RangeEntry, number_found, numbered, no_entry, started, start_of}
 use Rattle.pe_lookup.specs.AddressRanges.{IsCountUpTo}
-use Rattle.pe_lookup.proofs.Halving.{count_of, searched}
-use Rattle.pe_core.specs.declared.range_index.RangeEntry.{RangeEntry}
-use Rattle.pe_lookup.specs.SectionIndexes.{number_found, numbered, no_entry, started}
 use Rattle.pe_core.proofs.RangeCuts.{last_starts, none_starts}
-use Rattle.pe_lookup.proofs.IndexSearches.{start_of}
 
 at_cut : (es : List RangeEntry) (x c : ℕ) → IsCountUpTo start_of x es c → cond (nat_eq c 0) 0 (get_or es (c - 1) no_entry).number ≡ number_at es x
 at_cut es x c cut = grind (arith, none_starts, nat_tests, last_starts)

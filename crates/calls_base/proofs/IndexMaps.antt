@@ -1,24 +1,13 @@
 -- An index of the sections of an image maps RVAs as the sections do.
 use Rattle.std.proofs.Common.{◌≡◌, ℕ, zero, suc, ◌+◌, ◌-◌, ◌*◌, ◌^◌, ◌<◌, ◌≤◌, Bool, true, false, cond, List, [], ◌∷◌, length, take, drop, filter, Option, Some, None, refl, ap, ◌∙◌, ◌&&◌, arith, rules}
-use Rattle.std.specs.Prelude.{nat_le, nat_lt}
-use Rattle.std.specs.Int.{is_power_of_two}
-use Rattle.std.specs.List.{position, slice_get}
-use Rattle.std.specs.Option.{option_and_then, option_map}
-use Rattle.std.proofs.lemmas.Bool.{cases_lt}
-use Rattle.std.proofs.lemmas.Bool.Decides.{nat_tests}
-use Rattle.pe_core.specs.declared.section_table.SectionTable.{SectionTable}
-use Rattle.pe_core.specs.RangeIndexes.{EndBelow, Indexes, number_at}
-use Rattle.pe_core.specs.SectionMap.{covers, first, offset_of, reach}
-use Rattle.calls_base.specs.declared.image.Image.{Image}
-use Rattle.calls_base.specs.declared.view.View.{View}
-use Rattle.pe_core.specs.declared.range_index.RangeEntry.{RangeEntry}
+use Rattle.calls_base.proofs.Cited.{nat_le, nat_lt, is_power_of_two, slice_get, option_and_then, option_map, cases_lt, nat_tests}
+use Rattle.calls_base.proofs.Cited.{SectionTable, EndBelow, Indexes, number_at, covers, first, offset_of, reach, Image, View, RangeEntry}
+use Rattle.calls_base.proofs.Cited.{resolves, number_found, numbered, sections_by, entries_needed, is_searched, HasIndex, IsIndexOf}
+use Rattle.calls_base.proofs.Cited.{MakesIndex, WritesIndex, both}
+use Rattle.std.specs.List.{position}
 use Rattle.calls_base.specs.MapRanges.{range_at, range_in}
 use Rattle.calls_base.specs.Maps.{section_at}
-use Rattle.calls_base.specs.Modes.{resolves}
-use Rattle.pe_lookup.specs.SectionIndexes.{number_found, numbered, sections_by}
-use Rattle.calls_base.specs.SectionIndexes.{entries_needed, is_searched, HasIndex, IsIndexOf, MakesIndex, WritesIndex}
 use Rattle.calls_base.proofs.IndexFound.{Covers, covers_of, first_owner, found_at, numbered_first, numbered_none, numbered_some}
-use Rattle.pe_core.proofs.Equality.{both}
 
 offset_same : (resolve : Bool) (alignment x : ℕ) (s t : List SectionTable) → first (filter (covers alignment x) s) ≡ first (filter (covers alignment x) t) → offset_of resolve alignment s x ≡ offset_of resolve alignment t x
 unfolding offset_of

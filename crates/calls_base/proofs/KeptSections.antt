@@ -1,24 +1,10 @@
 -- The sections that a walk keeps: RVAs by these first, and which of them change no offset.
 use Rattle.std.proofs.Common.{◌≡◌, ℕ, zero, suc, ◌+◌, ◌-◌, ◌<◌, ◌++◌, Bool, true, List, [], ◌∷◌, length, take, drop, filter, Option, Some, None, refl, ap, sym, ◌∙◌, arith}
-use Rattle.std.specs.Prelude.{◌==◌, nat_lt, slice_index_or}
-use Rattle.std.specs.Int.{is_power_of_two}
-use Rattle.std.specs.Option.{option_map}
+use Rattle.calls_base.proofs.Cited.{◌==◌, nat_lt, slice_index_or, is_power_of_two, option_map, nat_tests, covers, first, offset_of}
+use Rattle.calls_base.proofs.Cited.{raw_start, SectionTable, numbered, map_of_image, ChangeNothing, HasAll, IsAlone, keeps_sections}
+use Rattle.calls_base.proofs.Cited.{map_kept, IsWindowOf, is_searched, map_of, Image, KeptSections, Window, View, both}
 use Rattle.std.proofs.Math.Path.{fun_ext}
-use Rattle.std.proofs.lemmas.Bool.Decides.{nat_tests}
-use Rattle.pe_core.specs.SectionMap.{covers, first, offset_of, raw_start}
-use Rattle.pe_core.specs.declared.section_table.SectionTable.{SectionTable}
-use Rattle.pe_lookup.specs.SectionIndexes.{numbered}
 use Rattle.calls_base.proofs.NearMaps.{all_sections}
-use Rattle.calls_base.specs.Images.{map_of_image}
-use Rattle.calls_base.specs.KeptSections.{ChangeNothing, HasAll, IsAlone, keeps_sections, map_kept}
-use Rattle.calls_base.specs.NearMaps.{IsWindowOf}
-use Rattle.calls_base.specs.SectionIndexes.{is_searched}
-use Rattle.calls_base.specs.Views.{map_of}
-use Rattle.calls_base.specs.declared.image.Image.{Image}
-use Rattle.calls_base.specs.declared.kept_sections.KeptSections.{KeptSections}
-use Rattle.calls_base.specs.declared.near_map.Window.{Window}
-use Rattle.calls_base.specs.declared.view.View.{View}
-use Rattle.pe_core.proofs.Equality.{both}
 
 -- ---- sections before others
 

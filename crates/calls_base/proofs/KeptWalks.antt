@@ -1,11 +1,7 @@
 -- Whole walks by the sections that they keep.
 use Rattle.std.proofs.Common.{◌≡◌, ℕ, List, [], ◌∷◌, Option, Result, Ok, Err, subst}
 use Rattle.calls_base.proofs.KeptSections.{same_map}
-use Rattle.calls_base.specs.KeptSections.{ChangeNothing, StepsKept}
-use Rattle.calls_base.specs.Runs.{IsOver, ReturnsItems}
-use Rattle.calls_base.specs.Views.{map_of}
-use Rattle.calls_base.specs.declared.kept_sections.KeptSections.{KeptSections}
-use Rattle.calls_base.specs.declared.view.View.{View}
+use Rattle.calls_base.proofs.Cited.{ChangeNothing, StepsKept, IsOver, ReturnsItems, map_of, KeptSections, View}
 
 -- a step by what changes no offset is one by the map of the view
 by_view : {W P X R : Type 0} (place : W → P) (kept : W → KeptSections) (Steps : (ℕ → Option ℕ) → P → Result (Option X) R → P → Type 0) (v : View) (w u : W) (answer : Result (Option X) R) →

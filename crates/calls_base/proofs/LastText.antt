@@ -1,7 +1,6 @@
 -- A number after the last one with a text says nothing of its own.
 use Rattle.std.proofs.Common.{◌≡◌, ℕ, ◌-◌, ◌≤◌, sym, arith}
-use Rattle.std.specs.Prelude.{codes}
-use Rattle.std.proofs.lemmas.List.{get_or_past}
+use Rattle.calls_base.proofs.Cited.{codes, get_or_past}
 use Rattle.calls_base.specs.Texts.{texts, refusal_text, other_texts, other_text, sign_texts, sign_text, edit_texts, edit_text, signature_texts, signature_text, dump_texts, dump_text, pdb_texts, pdb_text}
 
 pub text_past : (n : ℕ) → 39 ≤ n → codes "unknown result" ≡ refusal_text n

@@ -1,11 +1,6 @@
 -- The bytes of ranges, and those that are left of them.
 use Rattle.std.proofs.Common.{◌≡◌, ℕ, ◌+◌, ◌-◌, ◌≤◌, Bool, true, List, [], length, drop, Ok, refl, sym, ap, ◌∙◌, arith}
-use Rattle.std.proofs.lemmas.Bool.Decides.{nat_tests}
-use Rattle.std.proofs.lemmas.List.{places}
-use Rattle.pe_core.proofs.Ranges.{length_range, rest_of_range}
-use Rattle.pe_core.specs.Bytes.{holds, range}
-use Rattle.calls_base.specs.Ranges.{IsRange, bytes_at}
-use Rattle.calls_base.specs.declared.ranges.Range.{Range}
+use Rattle.calls_base.proofs.Cited.{nat_tests, places, length_range, rest_of_range, holds, range, IsRange, bytes_at, Range}
 
 pub same_range : (r s : Range) → r.offset ≡ s.offset → r.length ≡ s.length → r ≡ s
 same_range r s offset size = ap (λ (p : ℕ). record { offset = p; length = r.length }) offset ∙ ap (λ (n : ℕ). record { offset = s.offset; length = n }) size

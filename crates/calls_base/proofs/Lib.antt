@@ -1,3 +1,4 @@
+mod Cited
 pub mod DirectoryFailures
 pub mod Utf16Texts
 pub mod EntryRuns

@@ -1,8 +1,7 @@
 -- Lists are the items that steps return.
 use Rattle.std.proofs.Common.{◌≡◌, inl, inr, ℕ, zero, suc, ◌<◌, ◌≤◌, List, [], ◌∷◌, ◌++◌, length, map, take, drop, length-drop, Option, Some, None, Result, Ok, Err, refl, sym, ap, subst, ◌∙◌, arith}
-use Rattle.std.specs.List.{flat_map}
+use Rattle.calls_base.proofs.Cited.{flat_map, IsOver, ReturnsItems}
 use Rattle.calls_base.specs.Lists.{EndAtRefusal, GiveLists, GiveSteps, HaveRoom, Lists, Numbered, Stops, Takes, by_number, in_lists, items_after, items_in, list_of, one_of, values_first}
-use Rattle.calls_base.specs.Runs.{IsOver, ReturnsItems}
 
 module _ {W X R : Type 0} (number : R → ℕ) (Steps : W → Result (Option X) R → W → Type 0) where
   -- a step by number is one by its refusal

@@ -1,17 +1,10 @@
 -- What is read of a room to which an image was written as a loader lays it out.
 use Rattle.std.proofs.Common.{◌≡◌, ℕ, ◌+◌, ◌<◌, ◌≤◌, ◌++◌, Bool, false, List, length, drop, Some, sym, ◌∙◌, arith}
-use Rattle.std.proofs.lemmas.List.{get_or_append_left, get_or_default, length-append, same_lists}
-use Rattle.pe_core.specs.Bytes.{range}
-use Rattle.pe_core.specs.SectionMap.{offset_of}
-use Rattle.pe_core.specs.declared.section_table.SectionTable.{SectionTable}
+use Rattle.calls_base.proofs.Cited.{get_or_append_left, get_or_default, length-append, same_lists, range, offset_of, SectionTable}
+use Rattle.calls_base.proofs.Cited.{byte_of_range, length_range, PutsImage, PutsImageIf, loaded_of, resolves, map_of, may_map, View}
 use Rattle.pe_core.proofs.EntryItems.{length-each}
-use Rattle.pe_core.proofs.Ranges.{byte_of_range, length_range}
 use Rattle.pe_directories.proofs.LoadedReads.{range_is}
-use Rattle.calls_base.specs.Loaded.{PutsImage, PutsImageIf, loaded_of}
-use Rattle.calls_base.specs.Modes.{resolves}
-use Rattle.calls_base.specs.Views.{map_of, may_map}
 use Rattle.calls_base.specs.declared.results.TheConstants.{DONE}
-use Rattle.calls_base.specs.declared.view.View.{View}
 
 unresolved : (resolve : Bool) (alignment x : ℕ) (sections : List SectionTable) → resolve ≡ false → offset_of resolve alignment sections x ≡ Some x
 unfolding offset_of

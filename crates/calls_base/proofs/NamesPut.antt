@@ -1,7 +1,6 @@
 -- Two lists that go together, one of which is written entry by entry.
 use Rattle.std.proofs.Common.{ℕ, ◌+◌, ◌<◌, List, length, slice_index_or, slice_set, arith}
-use Rattle.std.proofs.lemmas.Bool.{cases_eq}
-use Rattle.std.proofs.lemmas.List.{get_or_default, get_or-set_other, get_or-set_same}
+use Rattle.calls_base.proofs.Cited.{cases_eq, get_or_default, get_or-set_other, get_or-set_same}
 
 -- one more of a list goes with the other list
 pub one_more : {A N : Type 0} (P : A → N → Type 0) (xs : List A) (ys : List N) (i : ℕ) (x : A) (y : N) → i < length xs → i < length ys →

@@ -1,20 +1,9 @@
 -- Windows of the section map.
 use Rattle.std.proofs.Common.{◌≡◌, ℕ, ◌+◌, ◌-◌, ◌<◌, ◌≤◌, ◌^◌, min, Bool, true, false, List, [], ◌∷◌, length, filter, Option, Some, None, refl, ap, sym, arith}
-use Rattle.std.specs.Prelude.{max, ◌==◌}
-use Rattle.std.specs.Int.{is_power_of_two}
-use Rattle.std.specs.Option.{option_map}
-use Rattle.std.proofs.lemmas.Bool.Decides.{nat_tests}
-use Rattle.pe_core.specs.SectionMap.{covers, first, offset_of, raw_start, reach}
-use Rattle.pe_core.specs.declared.section_table.SectionTable.{SectionTable}
+use Rattle.calls_base.proofs.Cited.{max, ◌==◌, is_power_of_two, option_map, nat_tests, covers, first, offset_of, raw_start, reach}
+use Rattle.calls_base.proofs.Cited.{SectionTable, in_turn, map_of_image, FindsWindow, IsWindow, IsWindowOf, sections_by, map_of, Window}
+use Rattle.calls_base.proofs.Cited.{RangeEntry, View}
 use Rattle.pe_core.proofs.Reaches.{outside}
-use Rattle.pe_directories.specs.LoadedImages.{in_turn}
-use Rattle.calls_base.specs.Images.{map_of_image}
-use Rattle.calls_base.specs.NearMaps.{FindsWindow, IsWindow, IsWindowOf}
-use Rattle.pe_lookup.specs.SectionIndexes.{sections_by}
-use Rattle.calls_base.specs.Views.{map_of}
-use Rattle.calls_base.specs.declared.near_map.Window.{Window}
-use Rattle.pe_core.specs.declared.range_index.RangeEntry.{RangeEntry}
-use Rattle.calls_base.specs.declared.view.View.{View}
 
 -- ---- sections in turn
 

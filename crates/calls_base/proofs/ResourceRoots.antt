@@ -1,12 +1,9 @@
 -- The first directory of the resources of an image lies in the bytes where a walk over the tree starts.
 use Rattle.std.proofs.Common.{◌≡◌, ℕ, ◌+◌, ◌≤◌, Bool, true, List, [], ◌∷◌, length, Option, Some, Result, Ok, arith}
-use Rattle.pe_core.proofs.Ranges.{inside_if_held}
+use Rattle.calls_base.proofs.Cited.{inside_if_held, Refusal, outcome, ParseOptions, SectionTable}
 use Rattle.pe_core.proofs.Steps.{given, same_inside}
-use Rattle.pe_core.specs.Refusals.{Refusal, outcome}
 use Rattle.pe_core.specs.declared.byte_range.ByteRange.{ByteRange}
 use Rattle.pe_core.specs.declared.data_directories.DataDirectory.{DataDirectory}
-use Rattle.pe_core.specs.declared.options.ParseOptions.{ParseOptions}
-use Rattle.pe_core.specs.declared.section_table.SectionTable.{SectionTable}
 use Rattle.pe_resource.specs.Contents.{file_range}
 use Rattle.pe_resource.specs.Directories.{directory_at}
 use Rattle.pe_resource.specs.LeafPositions.{leaf_start, start_in}

@@ -1,12 +1,7 @@
 -- A room that is filled from its beginning.
 use Rattle.std.proofs.Common.{◌≡◌, ℕ, ◌+◌, Bool, true, List, [], ◌++◌, length, take, drop, slice_set, Ok, arith}
-use Rattle.std.specs.Prelude.{nat_le}
-use Rattle.std.proofs.lemmas.Bool.Decides.{nat_tests}
-use Rattle.std.proofs.lemmas.List.{drop-set-lt, take-append-drop}
-use Rattle.std.proofs.lemmas.Grind.{drop_more_same}
+use Rattle.calls_base.proofs.Cited.{nat_le, nat_tests, drop-set-lt, take-append-drop, drop_more_same, SectionTable, PutsIf, PutsSectionsAt}
 use Rattle.pe_core.specs.Rows.{each}
-use Rattle.pe_core.specs.declared.section_table.SectionTable.{SectionTable}
-use Rattle.calls_base.specs.Images.{PutsIf, PutsSectionsAt}
 
 pub kept_more : {X : Type 0} (xs ys : List X) (i : ℕ) (y : X) → drop i xs ≡ drop i ys → drop (i + 1) (slice_set xs i y) ≡ drop (i + 1) ys
 kept_more xs ys i y e = rw (drop-set-lt (i + 1) xs i y (omega arith)) (drop_more_same xs ys i e)

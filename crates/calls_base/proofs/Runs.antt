@@ -1,8 +1,7 @@
 -- What whole runs of any walk tell.
 use Rattle.std.proofs.Common.{◌≡◌, List, [], ◌∷◌, ◌++◌, map, Option, Some, None, Result, Ok, Err, ap, ◌∙◌, arith}
 use Rattle.pe_core.specs.Gathered.{with_rest}
-use Rattle.pe_core.specs.Refusals.{Refusal}
-use Rattle.calls_base.specs.Runs.{ReturnsItems, ReturnsReported, IsOver}
+use Rattle.calls_base.proofs.Cited.{Refusal, ReturnsItems, ReturnsReported, IsOver}
 
 -- whatever step is made returns this, and leaves the walk there
 abbrev pub Makes : {W X R : Type 0} → (W → Result (Option X) R → W → Type 0) → W → Result (Option X) R → W → Type 0

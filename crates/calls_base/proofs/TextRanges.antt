@@ -1,11 +1,7 @@
 -- A text stands where it is read.
 use Rattle.std.proofs.Common.{◌≡◌, ℕ, ◌+◌, ◌-◌, ◌<◌, ◌≤◌, List, length, take, drop, Option, Some, refl, length-drop, length-take-le, arith}
-use Rattle.std.specs.Prelude.{◌==◌, position, slice_range}
-use Rattle.std.specs.Option.{option_and_then}
-use Rattle.std.proofs.lemmas.List.{places, same_lists}
-use Rattle.std.proofs.lemmas.List.Quantifiers.{position-Some}
+use Rattle.calls_base.proofs.Cited.{◌==◌, position, slice_range, option_and_then, places, same_lists, position-Some, IsRange}
 use Rattle.pe_core.specs.Text.{text_at, text_of, text_to_zero}
-use Rattle.calls_base.specs.Ranges.{IsRange}
 
 front_is_range : (b : List ℕ) (p n : ℕ) → n ≤ length (drop p b) → slice_range b p (p + length (take n (drop p b))) ≡ take n (drop p b)
 front_is_range b p n h = rw (length-take-le n (drop p b) h) (same_lists _ _ (grind (arith, places)) (λ j d lt. grind (arith, places)))

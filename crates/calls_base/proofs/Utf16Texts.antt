@@ -1,18 +1,13 @@
 -- Texts in UTF-16 character by character, and texts that are written one after the other.
 use Rattle.std.proofs.Common.{◌≡◌, ℕ, ◌+◌, ◌/◌, ◌<◌, ◌≤◌, true, List, [], ◌∷◌, ◌++◌, length, drop, get_or, Option, Some, None, append_assoc, length-append, length-drop, map, min, take, nat_lt, ◌-◌, sym, ap, ◌∙◌, arith}
-use Rattle.std.proofs.lemmas.Bool.Decides.{nat_tests}
-use Rattle.std.proofs.lemmas.List.{places, same_lists}
-use Rattle.std.proofs.lemmas.Str.{utf16_chars_lone, utf16_chars_pair}
+use Rattle.calls_base.proofs.Cited.{nat_tests, places, same_lists, utf16_chars_lone, utf16_chars_pair, unwrap_or, encode_utf8_all, le}
+use Rattle.calls_base.proofs.Cited.{splice, truncated_text, ended, second_of, utf16_text}
 use Rattle.std.specs.Char.{encode_utf8}
 use Rattle.std.specs.Char.Utf16.{is_high_surrogate, is_low_surrogate, lone_unit_char, surrogate_pair_char, utf16_chars, utf16_lossy_chars}
-use Rattle.std.specs.Option.{unwrap_or}
-use Rattle.std.specs.Str.{encode_utf8_all}
 use Rattle.pe_core.proofs.NumberBytes.{le-same}
 use Rattle.pe_core.proofs.Splices.{length-splice, splice-splice}
-use Rattle.pe_core.specs.Bytes.{le, splice}
 use Rattle.pe_resource.proofs.Units.{unit_at}
 use Rattle.pe_resource.specs.VersionStrings.{units}
-use Rattle.calls_base.specs.EndedTexts.{truncated_text, ended, second_of, utf16_text}
 use Rattle.pe_edit.proofs.Units.{front}
 
 -- ---- code units

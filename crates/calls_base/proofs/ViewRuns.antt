@@ -1,15 +1,8 @@
 -- Runs of RVAs by an index of the sections, whatever its entries are.
 use Rattle.std.proofs.Common.{◌≡◌, ℕ, ◌+◌, ◌-◌, ◌<◌, ◌≤◌, ◌^◌, min, true, false, List, length, arith}
-use Rattle.std.proofs.lemmas.Bool.Decides.{nat_tests}
-use Rattle.pe_core.specs.declared.section_table.SectionTable.{SectionTable}
-use Rattle.pe_directories.specs.LoadedImages.{IsRun}
+use Rattle.calls_base.proofs.Cited.{nat_tests, SectionTable, IsRun, map_of_image, StartedUntil, number_of_last, start_of_last, numbered}
+use Rattle.calls_base.proofs.Cited.{sections_by, start_by, started, Image, RangeEntry, skipped, turned_up, turned_down, started_at_0}
 use Rattle.pe_directories.specs.declared.section_runs.Run.{Run}
-use Rattle.calls_base.specs.Images.{map_of_image}
-use Rattle.calls_base.specs.Loaded.{StartedUntil, number_of_last, start_of_last}
-use Rattle.pe_lookup.specs.SectionIndexes.{numbered, sections_by, start_by, started}
-use Rattle.calls_base.specs.declared.image.Image.{Image}
-use Rattle.pe_core.specs.declared.range_index.RangeEntry.{RangeEntry}
-use Rattle.pe_lookup.proofs.IndexSearches.{skipped, turned_up, turned_down, started_at_0}
 
 -- ---- one turn of the search, for all RVAs of the run
 

@@ -1,8 +1,6 @@
 -- Files that calls write to a room: what a call returns after an attempt, and after it has asked for the length.
 use Rattle.std.proofs.Common.{◌≡◌, ℕ, Bool, List, [], ◌∷◌, length, Result, Ok, Err, refl, arith, if◌then◌else◌}
-use Rattle.std.specs.Prelude.{nat_le}
-use Rattle.std.proofs.lemmas.Bool.Decides.{nat_tests}
-use Rattle.pe_core.specs.Bytes.{splice}
+use Rattle.calls_base.proofs.Cited.{nat_le, nat_tests, splice}
 use Rattle.calls_base.specs.WrittenFiles.{HandsOutFile, HandsOutLength, NumberReturns, PutsFileIf, length_numbered, written_numbered}
 
 -- the call returned what is defined

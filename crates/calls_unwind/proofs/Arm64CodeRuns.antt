@@ -1,57 +1,33 @@
 -- A walk over ARM64 unwind codes returns all items of its stream.
-use Rattle.std.proofs.Common.{◌≡◌, ℕ, ◌+◌, ◌-◌, ◌%◌, ◌<◌, ◌≤◌, Bool, true, false, List, [], ◌∷◌, length, map, drop, Option, Some, None, Result, Ok, Err, refl, sym, ap, subst, ◌∙◌, arith, length-append, length-drop}
-use Rattle.std.specs.Prelude.{◌==◌, nat_le}
-use Rattle.std.proofs.lemmas.Bool.Decides.{nat_tests}
-use Rattle.std.proofs.lemmas.List.{drop_all}
-use Rattle.pe_core.specs.Bytes.{range}
-use Rattle.pe_core.specs.Refusals.{Refusal, Arm64Cut, Arm64Stream}
-use Rattle.pe_core.specs.declared.error.Error.{Error}
+use Rattle.std.proofs.Common.{[], ◌≡◌, ℕ, ◌+◌, ◌-◌, ◌%◌, ◌<◌, ◌≤◌, true, List, ◌∷◌, length, map, drop, Option, Some, Result, Ok, Err, refl, sym, ap, subst, ◌∙◌, arith, length-append, length-drop}
+use Rattle.calls_unwind.proofs.Cited.{◌==◌, nat_le, nat_tests, drop_all, Refusal, Arm64Cut, Error, bytes_of_range}
+use Rattle.calls_unwind.proofs.Cited.{bytes_there, left_after, nothing_there, same_range, size_of, StepsArm64Codes, StepsOverArm64}
+use Rattle.calls_unwind.proofs.Cited.{WalksInArm64, arm64_walk_at, flat_arm64, flat_arm64_item, flat_info, left_of_stream}
+use Rattle.calls_unwind.proofs.Cited.{over_arm64, range_after, bytes_at, ReturnsItems, IsOver, Arm64Code, Arm64CodeWalk, Range}
 use Rattle.pe_unwind.specs.Arm64Encoding.{encoding, StartsWithArm64Code, StartsWithNoArm64Code}
 use Rattle.pe_unwind.specs.Arm64Record.{Arm64InfoView, info_at}
-use Rattle.pe_unwind.specs.Arm64Tiling.{Tiles, Joins}
+use Rattle.pe_unwind.specs.Arm64Tiling.{Tiles}
 use Rattle.pe_unwind.specs.declared.arm64.codes.Arm64UnwindCode.{Arm64UnwindCode}
 use Rattle.pe_unwind.specs.declared.arm64.codes.Arm64UnwindCodeData.{Arm64UnwindCodeData}
 use Rattle.pe_unwind.proofs.Arm64OneCode.{starts_once}
 use Rattle.pe_unwind.proofs.Arm64Streams.{joined}
-use Rattle.calls_base.proofs.LeftBytes.{bytes_of_range, bytes_there, left_after, nothing_there, same_range, size_of}
 use Rattle.calls_unwind.proofs.RecordRanges.{codes_of_info}
-use Rattle.calls_unwind.specs.Arm64.{StepsArm64Codes, StepsOverArm64, WalksInArm64, arm64_walk_at, flat_arm64, flat_arm64_item, flat_info, left_of_stream, moved, over_arm64}
-use Rattle.calls_base.specs.Ranges.{range_after, bytes_at, no_bytes}
-use Rattle.calls_base.specs.Runs.{ReturnsItems, IsOver}
-use Rattle.calls_unwind.specs.declared.arm64.codes.Arm64Code.{Arm64Code}
-use Rattle.calls_unwind.specs.declared.arm64.codes.Arm64CodeWalk.{Arm64CodeWalk}
-use Rattle.calls_base.specs.declared.ranges.Range.{Range}
 
 -- ---- walks that are over
-
-starts_none : StartsWithNoArm64Code []
-starts_none =
-    let whole : Joins [] [] = joined [] 0 [] (omega arith) in
-    let nothing : [] ≡ whole.rest = whole.joined in
-    subst (λ (x : List ℕ). StartsWithNoArm64Code x) (sym nothing) whole.none
-
--- a step over no bytes returns nothing, and changes nothing
-over_nothing : (bytes : List ℕ) (w v : Arm64CodeWalk) (answer : Result (Option Arm64Code) Refusal) → bytes ≡ [] → StepsOverArm64 bytes w answer v → (answer ≡ Ok None) × (v ≡ w)
-over_nothing bytes w v (Ok None) e s = (refl, s.1)
-over_nothing bytes w v (Ok (Some code)) e s = absurd (starts_none s.0 (subst (λ (x : List ℕ). StartsWithArm64Code x s.0) e s.1))
-over_nothing bytes w v (Err r) e s = let none : length bytes ≡ 0 = ap length e in absurd (omega (arith, s.1, none))
 
 stepped : (b : List ℕ) (w v : Arm64CodeWalk) (bytes : List ℕ) (answer : Result (Option Arm64Code) Refusal) → left_of_stream b w ≡ Ok bytes → StepsArm64Codes b w answer v → StepsOverArm64 bytes w answer v
 stepped b w v bytes answer e s = subst (λ (r : Result (List ℕ) Refusal). WalksInArm64 r w answer v) e s
 
 is_over : (b : List ℕ) (w : Arm64CodeWalk) (bytes : List ℕ) → left_of_stream b w ≡ Ok bytes → bytes ≡ [] → IsOver (StepsArm64Codes b) w
-is_over b w bytes e none answer v s = over_nothing bytes w v answer none (stepped b w v bytes answer e s)
+is_over b w bytes e none answer v s = grind (arith, joined, stepped)
 
 -- the bytes that a walk has left, where they can be those of a stream
 left_by : (b : List ℕ) (w : Arm64CodeWalk) (bytes : List ℕ) → bytes_at b w.left ≡ Ok bytes → ((w.offset + w.left.length) % 4 == 0) ≡ true → nat_le (w.offset + w.left.length) 4294967292 ≡ true →
     left_of_stream b w ≡ Ok bytes
 left_by b w bytes e whole short = rw e (rw whole (rw short refl))
 
-over_has_none : (b : List ℕ) → left_of_stream b over_arm64 ≡ Ok (range b 0 0)
-over_has_none b = left_by b over_arm64 (range b 0 0) (bytes_there b no_bytes (omega arith)) refl refl
-
 at_end : (b : List ℕ) → IsOver (StepsArm64Codes b) over_arm64
-at_end b = is_over b over_arm64 (range b 0 0) (over_has_none b) (nothing_there b)
+at_end b = grind (arith, is_over, left_by, bytes_there, nothing_there)
 
 refused : (w v : Arm64CodeWalk) (r : Refusal) (answer : Result (Option Arm64Code) Refusal) → WalksInArm64 (Err r) w answer v → (answer ≡ Err r) × (v ≡ over_arm64)
 refused w v r answer s = s
@@ -79,11 +55,7 @@ record IsStream (b : List ℕ) (codes : Range) (d : List ℕ) : Type 0 where
 left_at : (b : List ℕ) (codes : Range) (d : List ℕ) (at : ℕ) → IsStream b codes d → at ≤ length d → left_of_stream b (walk_at codes at) ≡ Ok (drop at d)
 left_at b codes d at is h =
     let size : length d ≡ codes.length = size_of b codes d is.there in
-    let end : at + (codes.length - at) ≡ length d = omega (arith, size, h) in
-    let from : length d - (codes.length - at) ≡ at = omega (arith, size, h) in
-    let bytes : bytes_at b (range_after codes at) ≡ Ok (drop at d) =
-    left_after b codes (range_after codes at) d is.there (omega arith) (omega (arith, size, h)) ∙ ap (λ (n : ℕ). Ok (drop n d)) from in
-    left_by b (walk_at codes at) (drop at d) bytes (ap (λ (n : ℕ). n % 4 == 0) end ∙ is.whole) (ap (λ (n : ℕ). nat_le n 4294967292) end ∙ is.short)
+    grind (arith, left_after b codes (range_after codes at) d is.there (omega arith) (omega (arith, size, h)), left_by)
 
 some_left : (d : List ℕ) (at : ℕ) → at < length d → drop at d ≡ [] → ⊥
 some_left d at h e = let none : length (drop at d) ≡ 0 = ap length e in omega (arith, h, none, length-drop at d)
@@ -92,37 +64,22 @@ inside : (d : List ℕ) (at : ℕ) (c : Arm64UnwindCode) → at < length d → S
 inside d at c h starts =
     omega (arith, h, ap (λ (x : List ℕ). length x) starts.spelled, length-append (encoding c) (drop (length (encoding c)) (drop at d)), length-drop at d)
 
-moved_on : (codes : Range) (at n : ℕ) → moved (walk_at codes at) n ≡ walk_at codes (at + n)
-moved_on codes at n =
-    ap (λ (r : Range). record { left = r; offset = at + n }) (same_range (range_after (range_after codes at) n) (range_after codes (at + n)) (omega arith) (omega arith))
-
 -- what a step returns where a code starts
 gives_code : (codes : Range) (d : List ℕ) (at : ℕ) (item : Arm64UnwindCodeData) (v : Arm64CodeWalk) (answer : Result (Option Arm64Code) Refusal) → at < length d → StartsWithArm64Code (drop at d) item.code →
     item.offset ≡ at → item.len ≡ length (encoding item.code) → StepsOverArm64 (drop at d) (walk_at codes at) answer v →
     (answer ≡ Ok (Some (flat_arm64 item.offset item.code))) × (v ≡ walk_at codes (at + item.len))
-gives_code codes d at item v (Ok None) h starts offset len s = absurd (some_left d at h s.0)
-gives_code codes d at item v (Ok (Some code)) h starts offset len s =
-    let same : s.0 ≡ item.code = starts_once (drop at d) s.0 item.code s.1 starts in (
-      ap (λ (x : Arm64Code). Ok (Some x)) (s.2 ∙ ap (λ (c : Arm64UnwindCode). flat_arm64 at c) same ∙ ap (λ (n : ℕ). flat_arm64 n item.code) (sym offset)),
-      s.3 ∙ ap (λ (c : Arm64UnwindCode). moved (walk_at codes at) (length (encoding c))) same ∙ moved_on codes at (length (encoding item.code))
-          ∙ ap (λ (n : ℕ). walk_at codes (at + n)) (sym len),
-    )
-gives_code codes d at item v (Err r) h starts offset len s = absurd (s.2 item.code starts)
+gives_code codes d at item v answer h starts offset len s = grind (arith, some_left, starts_once, same_range)
 
 -- what it returns where none starts
 gives_cut : (codes : Range) (d : List ℕ) (at : ℕ) (v : Arm64CodeWalk) (answer : Result (Option Arm64Code) Refusal) → at < length d → StartsWithNoArm64Code (drop at d) →
     StepsOverArm64 (drop at d) (walk_at codes at) answer v → (answer ≡ Err Arm64Cut) × (v ≡ over_arm64)
-gives_cut codes d at v (Ok None) h none s = absurd (some_left d at h s.0)
-gives_cut codes d at v (Ok (Some code)) h none s = absurd (none s.0 s.1)
-gives_cut codes d at v (Err r) h none s = (ap (λ (x : Refusal). Err x) s.0, s.3)
+gives_cut codes d at v answer h none s = grind (arith, some_left)
 
 in_turn : (b : List ℕ) (codes : Range) (d : List ℕ) (items : List (Result Arm64UnwindCodeData Error)) (at : ℕ) → IsStream b codes d → at ≤ length d → Tiles d at items →
     ReturnsItems (StepsArm64Codes b) (walk_at codes at) (map flat_arm64_item items)
-in_turn b codes d [] at is le h = λ answer v s.
-    let ends = is_over b (walk_at codes at) (drop at d) (left_at b codes d at is le) (drop_all at d h) in
-    let over = ends answer v s in
-    (over.0, subst (λ (u : Arm64CodeWalk). IsOver (StepsArm64Codes b) u) (sym over.1) ends)
-in_turn b codes d (Ok item ∷ items) at is le h = λ answer v s.
+in_turn b codes d [] at is le h = grind (arith, is_over b (walk_at codes at) (drop at d) (left_at b codes d at is le) (drop_all at d h), left_at b codes d, drop_all)
+in_turn b codes d (Ok item ∷ items) at is le h =
+    λ answer v s.
     let given = gives_code codes d at item v answer h.0 h.1.0 h.1.1 h.1.2 (stepped b (walk_at codes at) v (drop at d) answer (left_at b codes d at is le) s) in
     let further : at + item.len ≤ length d = omega (arith, h.1.2, inside d at item.code h.0 h.1.0) in
     (given.0, subst (λ (u : Arm64CodeWalk). ReturnsItems (StepsArm64Codes b) u (map flat_arm64_item items)) (sym given.1) (in_turn b codes d items (at + item.len) is further h.2))
@@ -137,23 +94,9 @@ in_turn b codes d (Err e ∷ items) at is le h = (
 
 -- ---- from where a walk starts
 
-begun_by : (b : List ℕ) (codes : Range) (start : ℕ) (d : List ℕ) (w : Arm64CodeWalk) (whole inside short : Bool) → bytes_at b codes ≡ Ok d → (length d % 4 == 0) ≡ whole → nat_le start (length d) ≡ inside →
-    nat_le (length d) 4294967292 ≡ short → arm64_walk_at b codes start ≡ Ok w → (w ≡ walk_at codes start) × IsStream b codes d × (start ≤ length d)
-begun_by b codes start d w true true true e f g h k =
-    let same : ◌≡◌ {A = Result Arm64CodeWalk Refusal} (Ok (walk_at codes start)) (Ok w) = sym (rw e (rw f (rw g (rw h refl)))) ∙ k in
-    (cc, record { there = e; whole = f; short = h }, grind (arith, nat_tests))
-begun_by b codes start d w false inside short e f g h k =
-    absurd (let same : ◌≡◌ {A = Result Arm64CodeWalk Refusal} (Err Arm64Stream) (Ok w) = sym (rw e (rw f refl)) ∙ k in cc)
-begun_by b codes start d w true false short e f g h k =
-    absurd (let same : ◌≡◌ {A = Result Arm64CodeWalk Refusal} (Err Arm64Stream) (Ok w) = sym (rw e (rw f (rw g refl))) ∙ k in cc)
-begun_by b codes start d w true true false e f g h k =
-    absurd (let same : ◌≡◌ {A = Result Arm64CodeWalk Refusal} (Err Arm64Stream) (Ok w) = sym (rw e (rw f (rw g (rw h refl)))) ∙ k in cc)
-
 pub codes_in_turn : (b : List ℕ) (codes : Range) (start : ℕ) (d : List ℕ) (w : Arm64CodeWalk) (items : List (Result Arm64UnwindCodeData Error)) → bytes_at b codes ≡ Ok d → arm64_walk_at b codes start ≡ Ok w →
     Tiles d start items → ReturnsItems (StepsArm64Codes b) w (map flat_arm64_item items)
-codes_in_turn b codes start d w items e k tiles =
-    let begun = begun_by b codes start d w (length d % 4 == 0) (nat_le start (length d)) (nat_le (length d) 4294967292) e refl refl refl k in
-    subst (λ (u : Arm64CodeWalk). ReturnsItems (StepsArm64Codes b) u (map flat_arm64_item items)) (sym begun.0) (in_turn b codes d items start begun.1 begun.2 tiles)
+codes_in_turn b codes start d w items e k tiles = grind (arith, nat_tests, in_turn)
 
 pub codes_of_info_in_turn : (b : List ℕ) (p : ℕ) (i : Arm64InfoView) (start : ℕ) (w : Arm64CodeWalk) (items : List (Result Arm64UnwindCodeData Error)) → info_at b p ≡ Ok i →
     arm64_walk_at b (flat_info b p i).codes start ≡ Ok w → Tiles i.codes start items → ReturnsItems (StepsArm64Codes b) w (map flat_arm64_item items)

@@ -1,30 +1,14 @@
 -- Lists of unwind codes are read of the bytes that a walk has left, and those of functions of the bytes of a table.
-use Rattle.std.proofs.Common.{◌≡◌, ℕ, ◌+◌, ◌-◌, ◌*◌, ◌/◌, ◌%◌, ◌<◌, ◌≤◌, ◌==◌, inl, inr, List, [], ◌∷◌, length, drop, length-drop, get_or, Option, Some, None, Result, Ok, Err, refl, sym, ap, subst, ◌∙◌, arith}
-use Rattle.std.specs.Prelude.{slice_index}
-use Rattle.std.proofs.lemmas.List.{drop-drop}
+use Rattle.std.proofs.Common.{[], ◌≡◌, ℕ, ◌+◌, ◌-◌, ◌*◌, ◌/◌, ◌%◌, ◌<◌, ◌≤◌, ◌==◌, inl, inr, List, ◌∷◌, length, drop, length-drop, get_or, Option, Some, None, Result, Ok, Err, refl, sym, ap, subst, ◌∙◌, arith}
+use Rattle.calls_unwind.proofs.Cited.{slice_index, drop-drop, Refusal, ◌>>=◌, Error, le, CodeStream, ReturnsCode, stream_of, with_left}
+use Rattle.calls_unwind.proofs.Cited.{function_of, integer, RuntimeFunction, UnwindCode, StepsAs, hands_out_as, numbered_as, left_after}
+use Rattle.calls_unwind.proofs.Cited.{size_of, IsFrequent, ReturnsAny, StepsBytes, stream_in, stream_last, result_number}
+use Rattle.calls_unwind.proofs.Cited.{HandsOutList, Numbered, StepsByIndex, by_number, if_there, bytes_at, StepsCodes, StepsOver}
+use Rattle.calls_unwind.proofs.Cited.{flat_answer, plain, CodeBytes, Range, Code, CodeWalk}
 use Rattle.std.proofs.Math.Seq.{drop-length}
-use Rattle.pe_core.specs.Refusals.{Refusal, ◌>>=◌}
-use Rattle.pe_core.specs.declared.error.Error.{Error}
-use Rattle.pe_core.specs.Bytes.{le}
 use Rattle.pe_unwind.proofs.SpellingLengths.{starts_2, starts_4, word_at_2}
-use Rattle.pe_unwind.specs.CodeStream.{CodeStream, ReturnsCode, stream_of, with_left}
-use Rattle.pe_unwind.specs.ExceptionTable.{function_of}
-use Rattle.pe_unwind.specs.UnwindCodes.{integer}
-use Rattle.pe_unwind.specs.declared.function_table.RuntimeFunction.{RuntimeFunction}
-use Rattle.pe_unwind.specs.declared.unwind_code.UnwindCode.{UnwindCode}
 use Rattle.pe_unwind.specs.declared.unwind_code.UnwindCodeIterator.{UnwindCodeIterator}
 use Rattle.pe_unwind.specs.declared.unwind_code.UnwindOperation.TheVariants.{Alloc, PushNonVolatile}
-use Rattle.calls_base.proofs.FilledLists.{StepsAs, hands_out_as, numbered_as}
-use Rattle.calls_base.proofs.LeftBytes.{left_after, same_range, size_of}
-use Rattle.calls_unwind.specs.CodeBytes.{IsFrequent, ReturnsAny, StepsBytes, stream_in, stream_last}
-use Rattle.calls_base.specs.HandsOut.{result_number}
-use Rattle.calls_base.specs.Lists.{HandsOutList, Numbered, StepsByIndex, by_number, if_there}
-use Rattle.calls_base.specs.Ranges.{bytes_at}
-use Rattle.calls_unwind.specs.Unwinding.{StepsCodes, StepsOver, WalksIn, code_stream_at, flat_answer, left_of, plain}
-use Rattle.calls_unwind.specs.declared.lists.x64.CodeBytes.{CodeBytes}
-use Rattle.calls_base.specs.declared.ranges.Range.{Range}
-use Rattle.calls_unwind.specs.declared.unwinding.Code.{Code}
-use Rattle.calls_unwind.specs.declared.unwinding.CodeWalk.{CodeWalk}
 
 -- ---- frequent codes
 
@@ -61,17 +45,11 @@ allocated_more b some op info = (
 -- ---- what a step leaves is the last part of its bytes
 
 pub same_stream : (s t : CodeStream) → s.content ≡ t.content → s.version ≡ t.version → s.frame ≡ t.frame → s ≡ t
-same_stream s t content version frame =
-    ap (λ (x : List ℕ). with_left s x) content
-    ∙ ap (λ (v : ℕ). record { content = t.content; version = v; frame = s.frame }) version
-    ∙ ap (λ (f : ℕ). record { content = t.content; version = t.version; frame = f }) frame
+same_stream s t content version frame = grind arith
 
 -- n bytes are dropped of some, where n or more are there
 last_part : (s t : CodeStream) (n : ℕ) → n ≤ length s.content → t ≡ with_left s (drop n s.content) → (t ≡ with_left s (drop (length s.content - length t.content) s.content)) × (length t.content ≤ length s.content)
-last_part s t n inside e =
-    let size : length t.content ≡ length s.content - n = ap (λ (u : CodeStream). length u.content) e ∙ length-drop n s.content in
-    let same : n ≡ length s.content - length t.content = omega (arith, size, inside) in
-    (e ∙ ap (λ (k : ℕ). with_left s (drop k s.content)) same, omega (arith, size))
+last_part s t n inside e = grind (arith, length-drop)
 
 pub leaves_last : (s t : CodeStream) (given : Option (Result UnwindCode Error)) → ReturnsCode s given t → (t ≡ with_left s (drop (length s.content - length t.content) s.content)) × (length t.content ≤ length s.content)
 leaves_last s t None r = last_part s t 0 (omega arith) r.1
@@ -80,9 +58,7 @@ leaves_last s t (Some (Err e)) r = last_part s t (length s.content) (omega arith
 
 pub any_returns : (s : CodeBytes) (i j : UnwindCodeIterator) (given : Option (Result UnwindCode Error)) (x : Result (Option Code) ℕ) → stream_of i ≡ stream_in s → ReturnsCode (stream_of i) given (stream_of j) →
     x ≡ by_number result_number (flat_answer given) → ReturnsAny s x (length (stream_of j).content)
-any_returns s i j given x same r e =
-    let here : ReturnsCode (stream_in s) given (stream_of j) = subst (λ (u : CodeStream). ReturnsCode u given (stream_of j)) same r in
-    (given, subst (λ (u : CodeStream). ReturnsCode (stream_in s) given u) (leaves_last (stream_in s) (stream_of j) given here).0 here, e)
+any_returns s i j given x same r e = grind (arith, leaves_last)
 
 -- ---- steps
 
@@ -115,45 +91,19 @@ IsLeft w bytes s =
     (s.left.now ≡ drop (length bytes - length s.left.now) bytes) × (length s.left.now ≤ length bytes) × (s.version ≡ w.version) × (s.frame_register ≡ w.frame_register)
 
 still_left : (w : CodeWalk) (bytes : List ℕ) (s t : CodeBytes) (given : Option (Result UnwindCode Error)) → IsLeft w bytes s → ReturnsCode (stream_in s) given (stream_in t) → IsLeft w bytes t
-still_left w bytes s t given k r =
-    let last = leaves_last (stream_in s) (stream_in t) given r in
-    let less : length s.left.now ≤ length bytes = k.1 in
-    let dropped : t.left.now ≡ drop (length s.left.now - length t.left.now) s.left.now = ap (λ (u : CodeStream). u.content) last.0 in
-    let count : length bytes - length s.left.now + (length s.left.now - length t.left.now) ≡ length bytes - length t.left.now = omega (arith, last.1, less) in (
-      dropped
-          ∙ ap (λ (x : List ℕ). drop (length s.left.now - length t.left.now) x) k.0
-          ∙ drop-drop (length s.left.now - length t.left.now) (length bytes - length s.left.now) bytes
-          ∙ ap (λ (n : ℕ). drop n bytes) count,
-      omega (arith, last.1, less),
-      ap (λ (u : CodeStream). u.version) last.0 ∙ k.2,
-      ap (λ (u : CodeStream). u.frame) last.0 ∙ k.3,
-    )
+still_left w bytes s t given k r = grind (arith, leaves_last, drop-drop)
 
 -- a step over the bytes is a step of the walk
 steps_over : (w : CodeWalk) (bytes : List ℕ) (s t : CodeBytes) (given : Option (Result UnwindCode Error)) → length bytes ≡ w.left.length → IsLeft w bytes s → IsLeft w bytes t →
     ReturnsCode (stream_in s) given (stream_in t) → StepsOver s.left.now (walk_to w s) given (walk_to w t)
-steps_over w bytes s t given size k l r =
-    let last = leaves_last (stream_in s) (stream_in t) given r in
-    let more : length s.left.now ≤ length bytes = k.1 in
-    let less : length t.left.now ≤ length s.left.now = last.1 in
-    let dropped : t.left.now ≡ left_of s.left.now (walk_to w s) (walk_to w t) = ap (λ (u : CodeStream). u.content) last.0 in
-    let here : stream_in s ≡ code_stream_at s.left.now (walk_to w s) = same_stream (stream_in s) (code_stream_at s.left.now (walk_to w s)) refl k.2 k.3 in
-    let next : stream_in t ≡ code_stream_at (left_of s.left.now (walk_to w s) (walk_to w t)) (walk_to w t) =
-    same_stream (stream_in t) (code_stream_at (left_of s.left.now (walk_to w s) (walk_to w t)) (walk_to w t)) dropped l.2 l.3 in
-    record {
-      code = subst (λ (u : CodeStream). ReturnsCode u given (code_stream_at (left_of s.left.now (walk_to w s) (walk_to w t)) (walk_to w t))) here (subst (λ (u : CodeStream). ReturnsCode (stream_in s) given u) next r);
-      shorter = less;
-      same_end = omega (arith, more, less, size);
-      others = refl;
-    }
+steps_over w bytes s t given size k l r = grind (arith, leaves_last, same_stream)
 
 steps_as : (b bytes : List ℕ) (w : CodeWalk) → bytes_at b w.left ≡ Ok bytes → StepsAs (IsLeft w bytes) (walk_to w) StepsBytes (StepsCodes b)
 steps_as b bytes w e s t answer k h =
     let size : length bytes ≡ w.left.length = size_of b w.left bytes e in
     let less : length s.left.now ≤ length bytes = k.1 in
     let l = still_left w bytes s t h.0 k h.1 in
-    let there : bytes_at b (walk_to w s).left ≡ Ok s.left.now = left_after b w.left (walk_to w s).left bytes e (omega (arith, size, less)) (omega (arith, size, less)) ∙ ap (λ (x : List ℕ). Ok x) (sym k.0) in
-    (l, (h.0, subst (λ (r : Result (List ℕ) Refusal). WalksIn r (walk_to w s) h.0 (walk_to w t)) (sym there) (steps_over w bytes s t h.0 size k l h.1), h.2))
+    grind (arith, left_after b w.left (walk_to w s).left bytes e (omega (arith, size, less)) (omega (arith, size, less)), steps_over w bytes s t h.0 size k l h.1)
 
 -- ---- lists
 
@@ -166,8 +116,7 @@ lists_codes b w s t number old new before written e version frame h =
     let known : IsLeft w s.left.now s = (sym (ap (λ (n : ℕ). drop n s.left.now) all), omega arith, version, frame) in
     let listed = hands_out_as (IsLeft w s.left.now) (walk_to w) (Numbered result_number StepsBytes) (Numbered result_number (StepsCodes b))
     (numbered_as result_number (IsLeft w s.left.now) (walk_to w) StepsBytes (StepsCodes b) (steps_as b s.left.now w e)) (length old == 0) number s t old new before written known h in
-    let start : walk_to w s ≡ w = ap (λ (r : Range). record w { left = r }) (same_range (walk_to w s).left w.left (omega (arith, size)) size) in
-    subst (λ (u : CodeWalk). HandsOutList (Numbered result_number (StepsCodes b)) number u (walk_to w t) old new before written) start listed.1
+    grind arith
 
 -- a list leaves no more than there was
 shortens : (n : ℕ) → StepsAs (λ (s : CodeBytes). length s.left.now ≤ n) (λ (s : CodeBytes). s) StepsBytes StepsBytes

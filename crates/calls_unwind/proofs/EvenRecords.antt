@@ -1,25 +1,15 @@
 -- An even unwind RVA is no link: its record is at that RVA.
-use Rattle.std.proofs.Common.{◌≡◌, ◌⊎◌, inl, inr, arith, ℕ, ◌+◌, ◌-◌, ◌*◌, ◌/◌, ◌%◌, ◌<◌, ◌≤◌, true, List, [], ◌∷◌, length, Option, Some, Result, Ok, refl, ap, sym, subst, ◌∙◌}
-use Rattle.std.specs.Prelude.{◌==◌}
-use Rattle.pe_core.specs.Refusals.{Refusal, ◌>>=◌}
+use Rattle.std.proofs.Common.{[], ◌≡◌, ◌⊎◌, arith, ℕ, ◌+◌, ◌-◌, ◌*◌, ◌/◌, ◌%◌, ◌<◌, ◌≤◌, true, List, ◌∷◌, length, Option, Some, Result, Ok, refl, ap, sym, subst, ◌∙◌}
+use Rattle.calls_unwind.proofs.Cited.{◌==◌, Refusal, ◌>>=◌, slice_get, covers, mapped, offset_of, raw_start, SectionTable, map_of_image}
+use Rattle.calls_unwind.proofs.Cited.{bytes_at, HandsOut, FindsOffset, HandsOutRecord, flat_record_at, links_at, Range, DONE, UnwindRecord}
+use Rattle.calls_unwind.proofs.Cited.{Table, linked_table}
 use Rattle.std.specs.Int.{is_power_of_two}
-use Rattle.std.specs.List.{slice_get}
 use Rattle.pe_core.proofs.Map.{positive, same_some}
 use Rattle.pe_core.proofs.Reaches.{inside}
 use Rattle.pe_core.specs.Sections.{raw_end}
-use Rattle.pe_core.specs.SectionMap.{covers, mapped, offset_of, raw_start}
-use Rattle.pe_core.specs.declared.section_table.SectionTable.{SectionTable}
-use Rattle.calls_base.specs.Images.{map_of_image}
-use Rattle.calls_base.specs.Ranges.{bytes_at}
-use Rattle.calls_base.specs.HandsOut.{HandsOut}
-use Rattle.calls_unwind.specs.Unwinding.{FindsOffset, HandsOutRecord, flat_record_at, links_at}
-use Rattle.calls_base.specs.declared.ranges.Range.{Range}
-use Rattle.calls_base.specs.declared.results.TheConstants.{DONE}
-use Rattle.calls_unwind.specs.declared.unwinding.UnwindRecord.{UnwindRecord}
 use Rattle.calls_base.specs.declared.view.View.{View}
 use Rattle.calls_base.specs.Views.{map_of}
 use Rattle.calls_base.proofs.NearMaps.{all_sections}
-use Rattle.pe_unwind.specs.Links.{Table, linked_table}
 
 pub even_offsets : (offset : ℕ → Option ℕ) (b : List ℕ) (table : Range) (u : ℕ) (entries : List ℕ) → bytes_at b table ≡ Ok entries → u % 2 ≡ 0 → FindsOffset (links_at offset b table) u (mapped (offset u))
 even_offsets offset b table u entries inside even =
@@ -33,14 +23,11 @@ by_first alignment rva s more power here = rw (power, here) refl
 
 pub first_offset : (alignment rva : ℕ) (xs : List SectionTable) (s : SectionTable) → is_power_of_two alignment ≡ true → Some s ≡ slice_get xs 0 → s.virtual_address ≤ rva → (rva - s.virtual_address) / 4096 * 4096 < s.size_of_raw_data → (0 < s.virtual_size → (rva - s.virtual_address) / 4096 * 4096 < s.virtual_size) → (rva - s.virtual_address + raw_start s) / alignment * alignment < raw_end s → offset_of true alignment xs rva ≡ Some (rva - s.virtual_address + raw_start s)
 first_offset alignment rva [] s power e after raw size end = absurd cc
-first_offset alignment rva (x ∷ more) s power e after raw size end =
-    subst (λ (y : SectionTable). offset_of true alignment (y ∷ more) rva ≡ Some (rva - s.virtual_address + raw_start s)) (same_some s x e)
-    (by_first alignment rva s more power (inside alignment rva s (positive alignment power) after raw size end))
+first_offset alignment rva (x ∷ more) s power e after raw size end = grind (arith, same_some, by_first, inside, positive)
 
 -- a test of a size that may be 0
 pub below_some : (size page : ℕ) → ((size ≡ 0 → ⊥) × (page < size)) ⊎ (size ≡ 0) → 0 < size → page < size
-below_some size page (inl below) some = below.1
-below_some size page (inr none) some = absurd (omega (arith, none, some))
+below_some size page q some = grind arith
 
 -- where the map has an offset, the record is there
 pub near_offset : (offset : ℕ → Option ℕ) (b : List ℕ) (table : Range) (u p : ℕ) (entries : List ℕ) → bytes_at b table ≡ Ok entries → u % 2 ≡ 0 → offset u ≡ Some p → FindsOffset (links_at offset b table) u (Ok p)

@@ -1,16 +1,10 @@
 -- A plan by steps is the plan of its function.
-use Rattle.std.proofs.Common.{◌≡◌, ◌≢◌, ℕ, ◌+◌, ◌*◌, Bool, true, false, List, [], ◌∷◌, ◌++◌, Option, Some, None, Result, Ok, Err, ◌⊎◌, inl, inr, ⊎_elim, refl, ap, sym, subst, ◌∙◌, arith}
-use Rattle.std.specs.Prelude.{◌==◌, if◌then◌else◌, nat_le, min}
-use Rattle.std.specs.List.{AllZip}
-use Rattle.std.proofs.lemmas.Bool.{eqb-true}
-use Rattle.std.proofs.lemmas.Bool.Decides.{nat_tests}
-use Rattle.std.proofs.lemmas.List.{append_assoc, append-nil}
-use Rattle.pe_core.specs.Refusals.{Refusal, Memory, FunctionCycle, outcome, ◌>>=◌}
-use Rattle.pe_core.specs.SectionMap.{mapped}
-use Rattle.pe_unwind.specs.Links.{Table}
-use Rattle.pe_unwind.specs.UnwindRecord.{UnwindInfoView, unwind_tests, unwind_record}
-use Rattle.pe_unwind.specs.Unwinding.{FindsRecord, Unwinds, record_at_offset, record_at_address}
-use Rattle.pe_unwind.specs.declared.function_table.RuntimeFunction.{RuntimeFunction}
+use Rattle.std.proofs.Common.{[], ◌≡◌, ◌≢◌, ℕ, ◌+◌, ◌*◌, Bool, true, false, List, ◌∷◌, ◌++◌, Option, Some, None, Result, Ok, Err, ◌⊎◌, inl, inr, ⊎_elim, refl, ap, sym, subst, ◌∙◌, arith, rules}
+use Rattle.calls_unwind.proofs.Cited.{◌==◌, if◌then◌else◌, nat_le, min, AllZip, eqb-true, nat_tests, append_assoc, append-nil, Refusal}
+use Rattle.calls_unwind.proofs.Cited.{Memory, FunctionCycle, ◌>>=◌, mapped, Table, UnwindInfoView}
+use Rattle.calls_unwind.proofs.Cited.{RuntimeFunction, one_if_some, FollowsToRecord, flat_record_at, or_no_function, Plan}
+use Rattle.calls_unwind.proofs.Cited.{UnwindRecord}
+use Rattle.pe_unwind.specs.Unwinding.{FindsRecord, Unwinds, record_at_address}
 use Rattle.pe_plan.specs.Plans.{IsChain, PlansFrom}
 use Rattle.pe_plan.specs.PlanSteps.{Counts}
 use Rattle.pe_plan.proofs.Marks.{Marked, starts, keeps, moves, comes_again, comes_to_root, comes_to_refusal}
@@ -18,10 +12,6 @@ use Rattle.pe_plan.proofs.OnePlan.{one_plan}
 use Rattle.pe_plan.proofs.RecordLaw.{RecordLaw}
 use Rattle.pe_plan.proofs.Walks.{counted}
 use Rattle.calls_unwind.specs.Plans.{HandsOutAfter, ReturnsInTurn, StepsIf, StepsPlan, ReportsUnwindRecord, ended, ending_of, plan_result, goes_on, leaves, plan_from}
-use Rattle.calls_base.specs.Ranges.{one_if_some}
-use Rattle.calls_unwind.specs.Unwinding.{FollowsToRecord, flat_record, flat_record_at, or_no_function}
-use Rattle.calls_unwind.specs.declared.unwinding.plan.Plan.{Plan}
-use Rattle.calls_unwind.specs.declared.unwinding.UnwindRecord.{UnwindRecord}
 use Rattle.calls_unwind.proofs.PlanSteps.{over_gives}
 
 -- ---- the record of an address
@@ -33,17 +23,8 @@ Reports b (Ok r) (Err k) = ⊥
 Reports b (Err e) (Ok i) = ⊥
 Reports b (Err e) (Err k) = k ≡ e
 
-reports_record : (b : List ℕ) (p : ℕ) (x : Result UnwindInfoView Refusal) → outcome (unwind_tests b p) (unwind_record b p) ≡ x → Reports b (x >>= λ i. Ok (flat_record b p i)) x
-reports_record b p (Ok i) e = (p, e, refl)
-reports_record b p (Err k) e = refl
-
-reports_at_offset : (b : List ℕ) (offset : Option ℕ) → Reports b (mapped offset >>= flat_record_at b) (record_at_offset b offset)
-reports_at_offset b None = refl
-reports_at_offset b (Some p) = reports_record b p (outcome (unwind_tests b p) (unwind_record b p)) refl
-
 reports_at_end : (t : Table) (b : List ℕ) (end : Result ℕ Refusal) → Reports b ((end >>= λ a. mapped (t.offset a)) >>= flat_record_at b) (end >>= record_at_address t b)
-reports_at_end t b (Ok a) = reports_at_offset b (t.offset a)
-reports_at_end t b (Err k) = refl
+reports_at_end t b end = search (rules, arith)
 
 -- the record that an unwind address has
 record Found (t : Table) (b : List ℕ) (u : ℕ) (next : Result UnwindRecord Refusal) : Type 0 where
@@ -52,11 +33,7 @@ record Found (t : Table) (b : List ℕ) (u : ℕ) (next : Result UnwindRecord Re
   reports : Reports b next answer
 
 found_at : (t : Table) (b : List ℕ) (u : ℕ) (offset : Result ℕ Refusal) (next : Result UnwindRecord Refusal) → FindsRecord t u offset → next ≡ (offset >>= flat_record_at b) → Found t b u next
-found_at t b u offset next f is = record {
-  answer = f.0 >>= record_at_address t b;
-  unwinds = (f.0, f.1, refl);
-  reports = subst (λ (x : Result UnwindRecord Refusal). Reports b x (f.0 >>= record_at_address t b)) (sym (is ∙ ap (λ (y : Result ℕ Refusal). y >>= flat_record_at b) f.2)) (reports_at_end t b f.0);
-}
+found_at t b u offset next f is = grind (arith, reports_at_end t b f.0)
 
 found : (t : Table) (b : List ℕ) (u : ℕ) (next : Result UnwindRecord Refusal) → FollowsToRecord b (Ok t) u next → Found t b u next
 found t b u next f = found_at t b u f.0 next f.1 f.2
@@ -64,8 +41,7 @@ found t b u next f = found_at t b u f.0 next f.1 f.2
 -- ---- one step
 
 all_zip_more : {X Y : Type 0} (R : X → Y → Type 0) (xs : List X) (ys : List Y) (x : X) (y : Y) → AllZip R xs ys → R x y → AllZip R (xs ++ x ∷ []) (ys ++ y ∷ [])
-all_zip_more R [] [] x y a r = (r, tt)
-all_zip_more R [] (z ∷ ys) x y a r = absurd a
+all_zip_more R [] ys x y a r = grind arith
 all_zip_more R (z ∷ xs) [] x y a r = absurd a
 all_zip_more R (z ∷ xs) (w ∷ ys) x y a r = (a.0, all_zip_more R xs ys x y a.1 r)
 
@@ -96,48 +72,24 @@ Steps t b f reported (Err e) q = Counts t b f (Err e)
 saved_or_not : (t : Table) (b : List ℕ) (f current next : RuntimeFunction) (is : List UnwindInfoView) (i : UnwindInfoView) (reported : List UnwindRecord) (p : Plan) (saves : Bool) →
     Marked t b f is current p.saved → p.is_over ≡ 0 → Unwinds t b current.unwind_info_address (Ok i) → i.chained_info ≡ Some next → AllZip (ReportsUnwindRecord b) reported (is ++ i ∷ []) →
     Stands t b f reported (if saves then record p { unwind = next.unwind_info_address; saved = next.unwind_info_address; steps = 0; limit = min (2 * p.limit) 18446744073709551615 } else record p { unwind = next.unwind_info_address; steps = p.steps + 1 })
-saved_or_not t b f current next is i reported p true m n u to reports = record {
-  records = is ++ i ∷ [];
-  reports = reports;
-  current = next;
-  way = moves t b f current next is i p.saved m u to;
-  here = refl;
-  not_over = n;
-}
-saved_or_not t b f current next is i reported p false m n u to reports = record {
-  records = is ++ i ∷ [];
-  reports = reports;
-  current = next;
-  way = keeps t b f current next is i p.saved m u to;
-  here = refl;
-  not_over = n;
-}
+saved_or_not t b f current next is i reported p saves m n u to reports = grind (arith, moves t b f current next is i p.saved m u to, keeps t b f current next is i p.saved m u to)
 
 by_root : (t : Table) (b : List ℕ) (f : RuntimeFunction) (reported : List UnwindRecord) (p : Plan) (r : UnwindRecord) (root met : Bool) → root ≡ true → Reported t b f (reported ++ r ∷ []) →
     Steps t b f reported (if root then Ok (Some r) else (if met then Err FunctionCycle else Ok (Some r)))
     (if root then ended p else (if met then ended p else goes_on p r.chained.unwind_info_address))
-by_root t b f reported p r true met e all = inr (refl, all)
-by_root t b f reported p r false met e all = absurd cc
+by_root t b f reported p r root met e all = grind arith
 
 by_more : (t : Table) (b : List ℕ) (f : RuntimeFunction) (reported : List UnwindRecord) (p : Plan) (r : UnwindRecord) (root met : Bool) → root ≡ false →
     (met ≡ true → Counts t b f (Err FunctionCycle)) → Stands t b f (reported ++ r ∷ []) (goes_on p r.chained.unwind_info_address) →
     Steps t b f reported (if root then Ok (Some r) else (if met then Err FunctionCycle else Ok (Some r)))
     (if root then ended p else (if met then ended p else goes_on p r.chained.unwind_info_address))
-by_more t b f reported p r true met e cycle more = absurd cc
-by_more t b f reported p r false true e cycle more = cycle refl
-by_more t b f reported p r false false e cycle more = inl more
+by_more t b f reported p r root met e cycle more = grind arith
 
 -- a record that is reported
 by_record : (t : Table) (b : List ℕ) (f : RuntimeFunction) (reported : List UnwindRecord) (p : Plan) (w : Stands t b f reported p) (r : UnwindRecord) (i : UnwindInfoView) (o : Option RuntimeFunction) →
     Unwinds t b (w.current).unwind_info_address (Ok i) → ReportsUnwindRecord b r i → i.chained_info ≡ o → r.is_chained ≡ one_if_some o → r.chained ≡ or_no_function o →
     Steps t b f reported (plan_result p (Ok r)) (leaves p (Ok r))
-by_record t b f reported p w r i None u reports is flag chained =
-    by_root t b f reported p r (r.is_chained == 0) (r.chained.unwind_info_address == p.saved) (grind (arith, nat_tests, flag))
-    (record {
-      records = w.records ++ i ∷ [];
-      reports = all_zip_more (ReportsUnwindRecord b) reported w.records r i w.reports reports;
-      chain = comes_to_root t b f w.current w.records i p.saved w.way u is;
-    })
+by_record t b f reported p w r i None u reports is flag chained = grind (arith, by_root, nat_tests, all_zip_more (ReportsUnwindRecord b) reported w.records r i w.reports reports, comes_to_root t b f w.current w.records i p.saved w.way u is)
 by_record t b f reported p w r i (Some next) u reports is flag chained =
     by_more t b f reported p r (r.is_chained == 0) (r.chained.unwind_info_address == p.saved) (grind (arith, nat_tests, flag))
     (λ met. comes_again t b f w.current next w.records i p.saved w.way u is (sym (ap (λ (g : RuntimeFunction). g.unwind_info_address) chained) ∙ eqb-true _ _ met))
@@ -180,11 +132,8 @@ steps law t b f reported p q answer on step =
 
 run : (law : RecordLaw) (t : Table) (b : List ℕ) (f : RuntimeFunction) (reported rs : List UnwindRecord) (p q : Plan) →
     GoesOn t b f reported p → ReturnsInTurn b (Ok t) p rs q → GoesOn t b f (reported ++ rs) q
-run law t b f reported [] p q on g =
-    subst (λ (x : List UnwindRecord). GoesOn t b f x q) (sym (append-nil reported)) (subst (λ (x : Plan). GoesOn t b f reported x) g on)
-run law t b f reported (r ∷ rs) p q on g =
-    subst (λ (x : List UnwindRecord). GoesOn t b f x q) (append_assoc reported (r ∷ []) rs)
-    (run law t b f (reported ++ r ∷ []) rs g.0 q (steps law t b f reported p g.0 (Ok (Some r)) on g.1) g.2)
+run law t b f reported [] p q on g = subst (λ (x : List UnwindRecord). GoesOn t b f x q) (sym (append-nil reported)) (subst (λ (x : Plan). GoesOn t b f reported x) g on)
+run law t b f reported (r ∷ rs) p q on g = grind (arith, append_assoc, run law t b f (reported ++ r ∷ []) rs g.0 q (steps law t b f reported p g.0 (Ok (Some r)) on g.1) g.2)
 
 whole : (law : RecordLaw) (t : Table) (b : List ℕ) (f : RuntimeFunction) (given : List UnwindRecord) (answer : Result (Option UnwindRecord) Refusal) →
     (a : HandsOutAfter b (Ok t) f.unwind_info_address given answer) → Steps t b f given answer a.1
@@ -197,18 +146,14 @@ whole law t b f given answer a =
 pub records_are_reported : (law : RecordLaw) (b : List ℕ) (t : Table) (f : RuntimeFunction) (given : List UnwindRecord) →
     HandsOutAfter b (Ok t) f.unwind_info_address given (Ok None) →
     (is : List UnwindInfoView) × PlansFrom t b f (Ok is) × AllZip (ReportsUnwindRecord b) given is
-records_are_reported law b t f given a =
-    let all : Reported t b f given = whole law t b f given (Ok None) a in
-    (all.records, all.chain, all.reports)
+records_are_reported law b t f given a = grind (arith, whole law t b f given (Ok None) a)
 
 no_memory : (t : Table) (b : List ℕ) (f : RuntimeFunction) (k : Refusal) → Counts t b f (Err k) → k ≢ Memory
 no_memory t b f k c e = absurd (subst (λ (x : Refusal). Counts t b f (Err x)) e c)
 
 pub refusals_are_of_plans : (law : RecordLaw) (b : List ℕ) (t : Table) (f : RuntimeFunction) (given : List UnwindRecord) (refusal : Refusal) →
     HandsOutAfter b (Ok t) f.unwind_info_address given (Err refusal) → (refusal ≢ Memory) × PlansFrom t b f (Err refusal)
-refusals_are_of_plans law b t f given refusal a =
-    let c : Counts t b f (Err refusal) = whole law t b f given (Err refusal) a in
-    (no_memory t b f refusal c, counted t b f refusal c)
+refusals_are_of_plans law b t f given refusal a = grind (arith, whole law t b f given (Err refusal) a, no_memory, counted)
 
 ends_so : (law : RecordLaw) (t : Table) (b : List ℕ) (f : RuntimeFunction) (given : List UnwindRecord) (q : Plan) (plan : Result (List UnwindInfoView) Refusal) (answer : Result (Option UnwindRecord) Refusal) →
     PlansFrom t b f plan → plan ≢ Err Memory → Steps t b f given answer q → (answer ≡ ending_of plan) ⊎ ((r : UnwindRecord) × (answer ≡ Ok (Some r)))
@@ -225,10 +170,7 @@ plans_end_so law b t f plan given answer p known a = ends_so law t b f given a.1
 -- ---- a table that is not inside the bytes
 
 first_refused : (b : List ℕ) (u : ℕ) (refusal : Refusal) (q : Plan) (answer : Result (Option UnwindRecord) Refusal) → StepsPlan b (Err refusal) (plan_from u) answer q → answer ≡ Err refusal
-first_refused b u refusal q answer step =
-    let follows = step.1 in
-    let next : step.0 ≡ Err refusal = follows.2 ∙ ap (λ (x : Result ℕ Refusal). x >>= flat_record_at b) follows.1 in
-    step.2 ∙ ap (λ (x : Result UnwindRecord Refusal). plan_result (plan_from u) x) next
+first_refused b u refusal q answer step = cc
 
 pub tables_are_refused : (b : List ℕ) (u : ℕ) (refusal : Refusal) (given : List UnwindRecord) (answer : Result (Option UnwindRecord) Refusal) →
     HandsOutAfter b (Err refusal) u given answer → (given ≡ []) × (answer ≡ Err refusal)

@@ -1,30 +1,19 @@
 -- Functions by index are those of the table.
-use Rattle.std.proofs.Common.{◌≡◌, ℕ, ◌*◌, ◌/◌, ◌<◌, ◌≤◌, Bool, true, false, List, [], ◌∷◌, length, Ok, refl, sym, ap, ◌∙◌, arith}
-use Rattle.std.specs.Prelude.{nat_lt}
-use Rattle.std.proofs.lemmas.Bool.Decides.{nat_tests}
+use Rattle.std.proofs.Common.{[], ◌≡◌, ℕ, ◌*◌, ◌/◌, ◌<◌, Bool, true, false, List, ◌∷◌, length, Ok, refl, arith}
+use Rattle.calls_unwind.proofs.Cited.{nat_lt, nat_tests, FunctionIndex, outcome, arm64_function_in, bytes_at, function_in, Range}
 use Rattle.std.proofs.lemmas.Option.{slice_get-get_or, slice_get_past}
 use Rattle.pe_core.proofs.EntryItems.{get_or-whole_entries, count_of_whole_entries}
-use Rattle.pe_core.specs.Refusals.{FunctionIndex, outcome}
 use Rattle.pe_core.specs.Rows.{whole_entries}
 use Rattle.pe_unwind.specs.Arm64Functions.{arm64_function_at, arm64_functions}
 use Rattle.pe_unwind.specs.FunctionTable.{function_at, functions}
-use Rattle.calls_unwind.specs.Arm64.{arm64_function_in}
-use Rattle.calls_base.specs.Ranges.{bytes_at}
-use Rattle.calls_unwind.specs.Unwinding.{function_in}
-use Rattle.calls_base.specs.Walks.{indexed, or_no_index}
-use Rattle.calls_base.specs.declared.ranges.Range.{Range}
+use Rattle.calls_base.specs.Walks.{indexed}
 
 by_test : {X : Type 0} (entry_at : List ℕ → ℕ → X) (w : ℕ) (t : List ℕ) (i : ℕ) (inside : Bool) → nat_lt i (length t / w) ≡ inside →
     outcome ((inside, FunctionIndex) ∷ []) (entry_at t (w * i)) ≡ indexed (whole_entries entry_at w t) i
 by_test {X} entry_at w t i true e =
     let less : i < length t / w = grind (arith, nat_tests) in
-    let count : length (whole_entries entry_at w t) ≡ length t / w = count_of_whole_entries entry_at w t in
-    let found = slice_get-get_or (whole_entries entry_at w t) i (entry_at t (w * i)) (omega (arith, less, count)) in
-    sym (ap or_no_index found ∙ ap (λ (x : X). Ok x) (get_or-whole_entries entry_at w t i (entry_at t (w * i)) less))
-by_test entry_at w t i false e =
-    let past : length t / w ≤ i = grind (arith, nat_tests) in
-    let count : length (whole_entries entry_at w t) ≡ length t / w = count_of_whole_entries entry_at w t in
-    sym (ap or_no_index (slice_get_past (whole_entries entry_at w t) i (omega (arith, past, count))))
+    grind (arith, count_of_whole_entries, slice_get-get_or, get_or-whole_entries entry_at w t i (entry_at t (w * i)) less)
+by_test entry_at w t i false e = grind (arith, nat_tests, count_of_whole_entries, slice_get_past)
 
 pub functions_by_index : (b : List ℕ) (table : Range) (t : List ℕ) (i : ℕ) → bytes_at b table ≡ Ok t → function_in b table i ≡ indexed (functions t) i
 unfolding functions

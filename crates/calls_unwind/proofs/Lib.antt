@@ -1,3 +1,4 @@
+mod Cited
 pub mod Arm64CodeRuns
 pub mod Arm64Maps
 pub mod CodeRuns

@@ -1,63 +1,38 @@
 -- A plan that began at an address ends.
-use Rattle.std.proofs.Common.{◌≡◌, ◌≢◌, ℕ, suc, ◌+◌, ◌-◌, ◌*◌, ◌^◌, ◌<◌, ◌≤◌, Bool, true, false, List, [], ◌∷◌, length, Some, Result, Ok, Err, ◌⊎◌, inl, inr, ⊎_elim, refl, ap, sym, subst, ◌∙◌, arith, Option, None}
+use Rattle.std.proofs.Common.{[], ◌≡◌, ◌≢◌, ℕ, suc, ◌+◌, ◌-◌, ◌*◌, ◌^◌, ◌<◌, ◌≤◌, Bool, true, false, List, ◌∷◌, length, Some, Result, Ok, Err, ◌⊎◌, inl, ⊎_elim, refl, ap, sym, ◌∙◌, arith, Option, rules}
 use Rattle.pe_core.proofs.Steps.{same_inside}
-use Rattle.pe_core.specs.Bytes.{AreBytes}
-use Rattle.pe_core.specs.Refusals.{Refusal, ◌>>=◌, outcome}
+use Rattle.calls_unwind.proofs.Cited.{AreBytes, Refusal, ◌>>=◌, outcome, given, Table, UnwindInfoView, unwind_tests, unwind_record}
+use Rattle.calls_unwind.proofs.Cited.{RuntimeFunction, FindsOffset, FollowsToRecord, or_no_function, flat_record}
+use Rattle.calls_unwind.proofs.Cited.{UnwindRecord, ◌==◌, if◌then◌else◌, nat_le, min, cases_Bool, nat_tests, Plan}
 use Rattle.pe_unwind.proofs.ChainedAddresses.{IsSmall, small_record}
-use Rattle.pe_unwind.proofs.Offsets.{given}
-use Rattle.pe_unwind.specs.Links.{Table}
-use Rattle.pe_unwind.specs.UnwindRecord.{UnwindInfoView, unwind_tests, unwind_record}
-use Rattle.pe_unwind.specs.declared.function_table.RuntimeFunction.{RuntimeFunction}
 use Rattle.calls_unwind.proofs.Ways.{GoesTo, LeadsIn, as_many, joined, one_more}
-use Rattle.calls_unwind.specs.Unwinding.{FindsOffset, FollowsToRecord, flat_record_at, or_no_function, flat_record}
-use Rattle.calls_unwind.specs.declared.unwinding.UnwindRecord.{UnwindRecord}
 use Rattle.calls_unwind.proofs.Rings.{HasOneEnd, EndsBelow, same_end, split, Ring, ring_within, comes_again}
-use Rattle.std.specs.Prelude.{◌==◌, if◌then◌else◌, nat_le, min}
-use Rattle.std.proofs.lemmas.Bool.{cases_Bool}
-use Rattle.std.proofs.lemmas.Bool.Decides.{nat_tests}
-use Rattle.pe_core.specs.SectionMap.{mapped}
 use Rattle.pe_unwind.proofs.OneChain.{one_answer}
 use Rattle.calls_unwind.specs.Plans.{plan_from, ended, goes_on, leaves, StepsIf, ReturnsInTurn}
-use Rattle.calls_unwind.specs.declared.unwinding.plan.Plan.{Plan}
 use Rattle.calls_unwind.proofs.PlanSteps.{over_gives}
 
 -- The address that a record goes on at is one of 32 bits.
 small_or_none : (o : Option RuntimeFunction) → IsSmall o → (or_no_function o).unwind_info_address < 4294967296
-small_or_none None h = omega arith
-small_or_none (Some f) h = h
+small_or_none o h = grind arith
 
 by_record : (b : List ℕ) (p : ℕ) (r : UnwindRecord) (o : Result UnwindInfoView Refusal) → AreBytes b → outcome (unwind_tests b p) (unwind_record b p) ≡ o → Ok r ≡ (o >>= λ i. Ok (flat_record b p i)) →
     r.chained.unwind_info_address < 4294967296
-by_record b p r (Err refusal) small e f = absurd cc
-by_record b p r (Ok i) small e f =
-    let same : r ≡ flat_record b p i = same_inside r (flat_record b p i) f in
-    let info : IsSmall i.chained_info = subst (λ (j : UnwindInfoView). IsSmall j.chained_info) (given b p i e).1 (small_record b p small) in
-    subst (λ (x : UnwindRecord). x.chained.unwind_info_address < 4294967296) (sym same) (small_or_none i.chained_info info)
-
-by_offset : (b : List ℕ) (r : UnwindRecord) (offset : Result ℕ Refusal) → AreBytes b → Ok r ≡ (offset >>= flat_record_at b) → r.chained.unwind_info_address < 4294967296
-by_offset b r (Err refusal) small f = absurd cc
-by_offset b r (Ok p) small f = by_record b p r (outcome (unwind_tests b p) (unwind_record b p)) small refl f
+by_record b p r o small e f = grind (arith, same_inside, given, small_record, small_or_none)
 
 pub goes_below : (b : List ℕ) (links : Result Table Refusal) → AreBytes b → EndsBelow 4294967296 (GoesTo b links)
-goes_below b links small u v g = subst (λ (x : ℕ). x < 4294967296) g.3 (by_offset b g.0 g.1.0 small g.1.2)
+goes_below b links small u v g = grind (arith, by_record)
 
 -- ---- an address has one record
 
 one_offset : (links : Result Table Refusal) (u : ℕ) (x y : Result ℕ Refusal) → FindsOffset links u x → FindsOffset links u y → x ≡ y
 one_offset (Err refusal) u x y f g = f ∙ sym g
-one_offset (Ok t) u x y f g =
-    let same : f.0 ≡ g.0 = one_answer t u f.0 g.0 f.1 g.1 in
-    f.2 ∙ ap (λ (end : Result ℕ Refusal). end >>= λ a. mapped (t.offset a)) same ∙ sym g.2
+one_offset (Ok t) u x y f g = cc (one_answer t u f.0 g.0 f.1 g.1)
 
 pub one_record : (b : List ℕ) (links : Result Table Refusal) (u : ℕ) (x y : Result UnwindRecord Refusal) → FollowsToRecord b links u x → FollowsToRecord b links u y → x ≡ y
-one_record b links u x y f g =
-    let same : f.0 ≡ g.0 = one_offset links u f.0 g.0 f.1 g.1 in
-    f.2 ∙ ap (λ (offset : Result ℕ Refusal). offset >>= flat_record_at b) same ∙ sym g.2
+one_record b links u x y f g = cc (one_offset links u f.0 g.0 f.1 g.1)
 
 pub goes_once : (b : List ℕ) (links : Result Table Refusal) → HasOneEnd (GoesTo b links)
-goes_once b links u v w p q =
-    let same : p.0 ≡ q.0 = same_inside p.0 q.0 (one_record b links u (Ok p.0) (Ok q.0) p.1 q.1) in
-    sym p.3 ∙ ap (λ (r : UnwindRecord). r.chained.unwind_info_address) same ∙ q.3
+goes_once b links u v w p q = grind (arith, same_inside p.0 q.0 (one_record b links u (Ok p.0) (Ok q.0) p.1 q.1), one_record b links u (Ok p.0) (Ok q.0) p.1 q.1)
 
 -- ---- where a plan stands after k records
 
@@ -87,28 +62,14 @@ few goes one small u p k h a =
     (cases_Bool (nat_le 4294967296 p.steps))
 
 not_again : (goes : ℕ → ℕ → Type 0) → HasOneEnd goes → (u a k : ℕ) (p : Plan) → (w : At goes u p k) → LeadsIn goes (suc p.steps) p.saved a → a ≢ p.saved → (j : ℕ) → 1 ≤ j → j ≤ p.steps + 1 → LeadsIn goes j p.saved p.saved → ⊥
-not_again goes one u a k p w way other j some most back =
-    ⊎_elim (λ (e : nat_le j p.steps ≡ true). w.apart j some (grind (arith, nat_tests)) back)
-    (λ (e : nat_le j p.steps ≡ false).
-    let last : j ≡ suc p.steps = (let lt : p.steps < j = grind (arith, nat_tests) in omega (arith, lt, most)) in
-    other (same_end goes one (suc p.steps) p.saved a p.saved way (as_many goes j (suc p.steps) p.saved p.saved last back)))
-    (cases_Bool (nat_le j p.steps))
+not_again goes one u a k p w way other j some most back = grind (arith, ⊎_elim, nat_tests, same_end, as_many, cases_Bool)
 
 moved : (goes : ℕ → ℕ → Type 0) → HasOneEnd goes → (u a k : ℕ) (p : Plan) (saves : Bool) → nat_le p.limit (p.steps + 1) ≡ saves → At goes u p k → p.steps < 4294967296 → goes p.unwind a → a ≢ p.saved →
     At goes u (if saves then record p { unwind = a; saved = a; steps = 0; limit = min (2 * p.limit) 18446744073709551615 } else record p { unwind = a; steps = p.steps + 1 }) (suc k)
 moved goes one u a k p true e w small g other =
     let full : p.limit ≤ p.steps + 1 = grind (arith, nat_tests) in
     let double : min (2 * p.limit) 18446744073709551615 ≡ suc (w.before + p.steps) + 1 = omega (arith, full, w.less, w.limit, w.early) in
-    record {
-      before = suc (w.before + p.steps);
-      to_saved = one_more goes (w.before + p.steps) u p.unwind a (joined goes w.before p.steps u p.saved p.unwind w.to_saved w.to_next) g;
-      to_next = refl;
-      count = omega (arith, w.count);
-      limit = double;
-      less = omega (arith, double);
-      early = omega (arith, full, w.less, w.limit, small);
-      apart = λ j some most back. absurd (omega (arith, some, most));
-    }
+    grind (arith, one_more goes (w.before + p.steps) u p.unwind a (joined goes w.before p.steps u p.saved p.unwind w.to_saved w.to_next) g, joined goes w.before p.steps u p.saved p.unwind w.to_saved w.to_next)
 moved goes one u a k p false e w small g other =
     let room : p.steps + 1 < p.limit = grind (arith, nat_tests) in
     let way : LeadsIn goes (suc p.steps) p.saved a = one_more goes p.steps p.saved p.unwind a w.to_next g in
@@ -128,11 +89,7 @@ moved goes one u a k p false e w small g other =
 left : (goes : ℕ → ℕ → Type 0) → HasOneEnd goes → EndsBelow 4294967296 goes → (u k : ℕ) (p : Plan) (r : UnwindRecord) (root met : Bool) → u < 4294967296 → At goes u p k →
     (root ≡ false → goes p.unwind r.chained.unwind_info_address) → (met ≡ false → r.chained.unwind_info_address ≢ p.saved) → (q : Plan) →
     q ≡ (if root then ended p else (if met then ended p else goes_on p r.chained.unwind_info_address)) → (q.is_over ≡ 1) ⊎ At goes u q (suc k)
-left goes one small u k p r true met h w g other q e = inl (ap (λ (x : Plan). x.is_over) e)
-left goes one small u k p r false true h w g other q e = inl (ap (λ (x : Plan). x.is_over) e)
-left goes one small u k p r false false h w g other q e =
-    inr (subst (λ (x : Plan). At goes u x (suc k)) (sym e)
-    (moved goes one u r.chained.unwind_info_address k p (nat_le p.limit (p.steps + 1)) refl w (few goes one small u p k h w) (g refl) (other refl)))
+left goes one small u k p r root met h w g other q e = grind (arith, moved, few)
 
 apart_of : (a b : ℕ) → (a == b) ≡ false → a ≢ b
 apart_of a b e same = absurd (grind (arith, nat_tests))
@@ -140,9 +97,7 @@ apart_of a b e same = absurd (grind (arith, nat_tests))
 after : (b : List ℕ) (links : Result Table Refusal) (u k : ℕ) (p q : Plan) (next : Result UnwindRecord Refusal) → EndsBelow 4294967296 (GoesTo b links) → u < 4294967296 → At (GoesTo b links) u p k →
     FollowsToRecord b links p.unwind next → q ≡ leaves p next → (q.is_over ≡ 1) ⊎ At (GoesTo b links) u q (suc k)
 after b links u k p q (Err refusal) small h w f e = inl (ap (λ (x : Plan). x.is_over) e)
-after b links u k p q (Ok given) small h w f e =
-    left (GoesTo b links) (goes_once b links) small u k p given (given.is_chained == 0) (given.chained.unwind_info_address == p.saved) h w
-    (λ root. (given, f, root, refl)) (λ met. apart_of given.chained.unwind_info_address p.saved met) q e
+after b links u k p q (Ok given) small h w f e = search (rules, arith, left, goes_once, given, apart_of)
 
 step_at : (test : Bool) (b : List ℕ) (links : Result Table Refusal) (u k : ℕ) (p q : Plan) (r : UnwindRecord) → EndsBelow 4294967296 (GoesTo b links) → u < 4294967296 → At (GoesTo b links) u p k →
     StepsIf test b links p (Ok (Some r)) q → (q.is_over ≡ 1) ⊎ At (GoesTo b links) u q (suc k)
@@ -168,16 +123,7 @@ run b links u k p q (r ∷ rs) small h w g =
 pub plans_end_below : (b : List ℕ) (links : Result Table Refusal) (u : ℕ) (rs : List UnwindRecord) (q : Plan) → EndsBelow 4294967296 (GoesTo b links) → u < 4294967296 →
     ReturnsInTurn b links (plan_from u) rs q → length rs ≤ 12884901888
 plans_end_below b links u rs q small h g =
-    let start : At (GoesTo b links) u (plan_from u) 0 = record {
-      before = 0;
-      to_saved = refl;
-      to_next = refl;
-      count = refl;
-      limit = refl;
-      less = omega arith;
-      early = omega arith;
-      apart = λ j some most back. absurd (omega (arith, some, most));
-    } in
+    let start : At (GoesTo b links) u (plan_from u) 0 = grind arith in
     let bound : 0 + length rs ≤ 12884901888 = run b links u 0 (plan_from u) q rs small h start g in
     omega (arith, bound)
 

@@ -1,8 +1,7 @@
 -- Ways that come to a place again.
-use Rattle.std.proofs.Common.{◌≡◌, ◌≢◌, ℕ, zero, suc, ◌+◌, ◌-◌, ◌<◌, ◌≤◌, true, false, List, [], ◌∷◌, length, eqb, ◌⊎◌, inl, inr, ⊎_elim, refl, ap, sym, subst, ◌∙◌, arith}
-use Rattle.std.specs.List.{IsDistinct, list_any}
-use Rattle.std.proofs.lemmas.Bool.{cases_Bool, cases_eq, false≢true}
-use Rattle.std.proofs.lemmas.Bool.Decides.{nat_tests}
+use Rattle.std.proofs.Common.{[], ◌≡◌, ◌≢◌, ℕ, zero, suc, ◌+◌, ◌-◌, ◌<◌, ◌≤◌, true, false, List, ◌∷◌, length, eqb, ◌⊎◌, inl, inr, ⊎_elim, refl, ap, sym, subst, ◌∙◌, arith}
+use Rattle.calls_unwind.proofs.Cited.{list_any, cases_Bool, cases_eq, nat_tests}
+use Rattle.std.specs.List.{IsDistinct}
 use Rattle.std.proofs.lemmas.Map.Keys.{IsDistinct-cons}
 use Rattle.std.proofs.lemmas.Map.Steps.{length-le_from_distinct_below}
 use Rattle.pe_core.proofs.Pigeonhole.{or_second}
@@ -49,10 +48,7 @@ length-stops goes zero u v p = refl
 length-stops goes (suc k) u v p = ap suc (length-stops goes k p.0 v p.2)
 
 comes_to : (goes : ℕ → ℕ → Type 0) (k u v q : ℕ) (p : LeadsIn goes k u v) → list_any (eqb q) (stops goes k u v p) ≡ true → (j : ℕ) × (j ≤ k) × LeadsIn goes j u q
-comes_to goes zero u v q p e =
-    ⊎_elim (λ (same : q ≡ u). (0, omega arith, sym same))
-    (λ (other : q ≢ u). absurd (false≢true (or_second (eqb q u) false (grind (arith, nat_tests)) e)))
-    (cases_eq q u)
+comes_to goes zero u v q p e = grind arith
 comes_to goes (suc k) u v q p e =
     ⊎_elim (λ (same : q ≡ u). (0, omega arith, sym same))
     (λ (other : q ≢ u).
@@ -75,10 +71,7 @@ distinct_or_ring goes (suc k) u v p =
     (distinct_or_ring goes k p.0 v p.2)
 
 below : (goes : ℕ → ℕ → Type 0) (n : ℕ) → EndsBelow n goes → (k u v q : ℕ) (p : LeadsIn goes k u v) → u < n → list_any (eqb q) (stops goes k u v p) ≡ true → q < n
-below goes n small zero u v q p h e =
-    ⊎_elim (λ (same : q ≡ u). omega (arith, h))
-    (λ (other : q ≢ u). absurd (false≢true (or_second (eqb q u) false (grind (arith, nat_tests)) e)))
-    (cases_eq q u)
+below goes n small zero u v q p h e = grind arith
 below goes n small (suc k) u v q p h e =
     ⊎_elim (λ (same : q ≡ u). omega (arith, h))
     (λ (other : q ≢ u). below goes n small k p.0 v q p.2 (small u p.0 p.1) (or_second (eqb q u) _ (grind (arith, nat_tests)) e))
@@ -102,6 +95,4 @@ comes_again goes one n u k a r h p =
     let to_end : LeadsIn goes after r.offset a = subst (λ (x : ℕ). LeadsIn goes after x a) there parts.2 in
     let round : LeadsIn goes (suc r.around + after) r.offset a = joined goes (suc r.around) after r.offset r.offset a r.to_again to_end in
     let whole : LeadsIn goes (r.before + (suc r.around + after)) u a = joined goes r.before (suc r.around + after) u r.offset a r.to_offset round in
-    let again = split goes k (suc r.around) u a (as_many goes (r.before + (suc r.around + after)) (k + suc r.around) u a (omega (arith, r.within, h)) whole) in
-    let same : again.0 ≡ a = same_end goes one k u again.0 a again.1 p in
-    subst (λ (x : ℕ). LeadsIn goes (suc r.around) x a) same again.2
+    grind (arith, split, as_many goes (r.before + (suc r.around + after)) (k + suc r.around) u a (omega (arith, r.within, h)) whole, same_end)

@@ -1,11 +1,7 @@
 -- Lookups in a function table at a range.
 use Rattle.std.proofs.Common.{◌≡◌, ℕ, List, Option, Result, Ok, Err, refl, sym, subst}
-use Rattle.pe_core.specs.Refusals.{Refusal}
+use Rattle.calls_unwind.proofs.Cited.{Refusal, RuntimeFunction, bytes_at, LocatesIn, Range}
 use Rattle.pe_unwind.specs.FunctionTable.{Finds, functions}
-use Rattle.pe_unwind.specs.declared.function_table.RuntimeFunction.{RuntimeFunction}
-use Rattle.calls_base.specs.Ranges.{bytes_at}
-use Rattle.calls_unwind.specs.Unwinding.{LocatesIn}
-use Rattle.calls_base.specs.declared.ranges.Range.{Range}
 
 pub found_in : (b entries : List ℕ) (table : Range) (rva : ℕ) (found : Option RuntimeFunction) → bytes_at b table ≡ Ok entries → Finds (functions entries) rva found → LocatesIn (bytes_at b table) rva (Ok found)
 found_in b entries table rva found e h = subst (λ (r : Result (List ℕ) Refusal). LocatesIn r rva (Ok found)) (sym e) h

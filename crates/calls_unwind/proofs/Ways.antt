@@ -1,10 +1,6 @@
 -- Ways of steps, each from a place to another: those of a plan, from the unwind address of a record to the one it goes on at.
 use Rattle.std.proofs.Common.{◌≡◌, ℕ, zero, suc, ◌+◌, false, List, Result, Ok, refl, sym, subst, arith}
-use Rattle.std.specs.Prelude.{◌==◌}
-use Rattle.pe_core.specs.Refusals.{Refusal}
-use Rattle.pe_unwind.specs.Links.{Table}
-use Rattle.calls_unwind.specs.Unwinding.{FollowsToRecord}
-use Rattle.calls_unwind.specs.declared.unwinding.UnwindRecord.{UnwindRecord}
+use Rattle.calls_unwind.proofs.Cited.{◌==◌, Refusal, Table, FollowsToRecord, UnwindRecord}
 
 -- the record of an address goes on at another
 abbrev pub GoesTo : List ℕ → Result Table Refusal → ℕ → ℕ → Type 0

@@ -261,6 +261,7 @@ pub fn linked_offset<M: RvaMap>(bytes: &[u8], table: &Range, map: &M, unwind: u3
 
 /// The same, where an even RVA, which is no link, needs none of the table.
 #[inline(always)]
+#[tactic(auto, using(crate::proofs::EvenRecords::even_offsets))]
 fn find_record_offset<M: RvaMap>(bytes: &[u8], table: &Range, map: &M, unwind: u32) -> Result<usize>
     ensures { FindsOffset (links_at (M.offset map.now) bytes.now table.now) unwind (answer_of result) }
 {

@@ -1,19 +1,9 @@
 -- Delay imports as lists: the steps of their walks, and the names of what is left.
 use Rattle.std.proofs.Common.{◌≡◌, ℕ, suc, ◌+◌, ◌<◌, ◌≤◌, List, [], ◌∷◌, ◌++◌, map, length, get_or, drop, Option, Some, None, Result, Ok, refl, ap, ◌∙◌, arith, length-drop, append_assoc}
-use Rattle.std.specs.Borrow.{Bor}
-use Rattle.std.specs.Option.{option_map}
+use Rattle.pe_directories.proofs.Cited.{Bor, option_map, append-nil, length-map, text_at, texts_of, first_delay_import, delay_imports_left}
+use Rattle.pe_directories.proofs.Cited.{AreItemNames, entry_items, item_offset, table_items, DirectoryRefusal, directory_answer, first_va}
+use Rattle.pe_directories.proofs.Cited.{vas_left, vas_are_64, Steps, DelayImport, DelayImports, VaTable, DirectoryError}
 use Rattle.std.proofs.Math.Seq.{drop-cons}
-use Rattle.std.proofs.lemmas.List.{append-nil, length-map}
-use Rattle.pe_core.specs.Text.{text_at, texts_of}
-use Rattle.pe_directories.specs.DelayImports.{first_delay_import, delay_imports_left}
-use Rattle.pe_directories.specs.DelayImportSteps.{AreItemNames, entry_items, item_offset, table_items}
-use Rattle.pe_directories.specs.DirectoryRefusals.{DirectoryRefusal, directory_answer}
-use Rattle.pe_directories.specs.VaTables.{first_va, vas_left, vas_are_64}
-use Rattle.pe_directories.specs.Walks.{Steps}
-use Rattle.pe_directories.specs.declared.delay_import.DelayImport.{DelayImport}
-use Rattle.pe_directories.specs.declared.delay_import.DelayImports.{DelayImports}
-use Rattle.pe_directories.specs.declared.va_table.VaTable.{VaTable}
-use Rattle.pe_directories.specs.declared.error.DirectoryError.{DirectoryError}
 use Rattle.pe_directories.proofs.OtherWalks.{va_shrinks, delay_import_shrinks}
 use Rattle.pe_directories.proofs.WalkLists.{first_taken, none_left}
 

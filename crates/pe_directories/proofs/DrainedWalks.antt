@@ -1,16 +1,12 @@
 -- What walks return until they are over, each the list of the items that are left, and that there is one such list.
 use Rattle.std.proofs.Common.{◌≡◌, ℕ, List, length, map, refl, ap, Option, Result}
-use Rattle.std.specs.Iterator.{Drains}
+use Rattle.pe_directories.proofs.Cited.{Drains, stream_view, first_stream, streams_left, directory_answer, guarded_view, first_guarded}
+use Rattle.pe_directories.proofs.Cited.{flag_size_of, guarded_left, HasOneList, ItemsLeft, Steps, DirectoryError}
 use Rattle.pe_directories.specs.BoundImports.{bound_view, first_bound_import, bound_imports_left}
-use Rattle.pe_directories.specs.Clr.{stream_view, first_stream, streams_left}
-use Rattle.pe_directories.specs.DirectoryRefusals.{directory_answer}
-use Rattle.pe_directories.specs.GuardTables.{guarded_view, first_guarded, flag_size_of, guarded_left}
-use Rattle.pe_directories.specs.Walks.{HasOneList, ItemsLeft, Steps}
 use Rattle.pe_directories.specs.declared.bound_import.BoundImport.{BoundImport}
 use Rattle.pe_directories.specs.declared.bound_import.BoundImports.{BoundImports}
 use Rattle.pe_directories.specs.declared.clr.ClrStream.{ClrStream}
 use Rattle.pe_directories.specs.declared.clr.ClrStreams.{ClrStreams}
-use Rattle.pe_directories.specs.declared.error.DirectoryError.{DirectoryError}
 use Rattle.pe_directories.specs.declared.guard_table.GuardEntry.{GuardEntry}
 use Rattle.pe_directories.specs.declared.guard_table.GuardTable.{GuardTable}
 use Rattle.pe_directories.proofs.OtherWalks.{bound_import_shrinks, count_of, guarded_shrinks, stream_shrinks}

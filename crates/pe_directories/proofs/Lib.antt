@@ -1,3 +1,4 @@
+mod Cited
 pub mod WholeWalks
 pub mod SectionRuns
 pub mod LoadedImages

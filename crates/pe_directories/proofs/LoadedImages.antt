@@ -1,17 +1,9 @@
 -- Images as a loader lays them out, run by run.
 use Rattle.std.proofs.Common.{◌≡◌, ℕ, zero, suc, ◌+◌, ◌-◌, ◌<◌, ◌≤◌, min, Bool, true, false, List, [], ◌∷◌, ◌++◌, length, take, replicate, Option, Some, None, refl, ap, sym, subst, ◌∙◌, length-append, length-take, length-drop, arith}
 use Rattle.std.specs.Int.{is_power_of_two}
-use Rattle.std.specs.Option.{option_map}
-use Rattle.std.proofs.lemmas.List.{append-nil, append_assoc, length-replicate, places, same_lists, take_all}
-use Rattle.pe_core.specs.Bytes.{range, splice}
-use Rattle.pe_core.specs.Rows.{each}
-use Rattle.pe_core.specs.SectionMap.{offset_of}
-use Rattle.pe_core.specs.declared.section_table.SectionTable.{SectionTable}
-use Rattle.pe_core.proofs.EntryItems.{each_same, get_or-each, length-each}
-use Rattle.pe_core.proofs.Ranges.{length_range}
-use Rattle.pe_core.proofs.Splices.{length-splice, splice-splice}
-use Rattle.pe_directories.specs.LoadedImages.{IsRun, byte_or_zero, in_turn, loaded_byte}
-use Rattle.pe_directories.specs.declared.section_runs.Run.{Run}
+use Rattle.pe_directories.proofs.Cited.{option_map, append-nil, append_assoc, length-replicate, places, same_lists, take_all, range, splice}
+use Rattle.pe_directories.proofs.Cited.{each, offset_of, SectionTable, each_same, get_or-each, length-each, length_range, length-splice}
+use Rattle.pe_directories.proofs.Cited.{splice-splice, IsRun, byte_or_zero, in_turn, loaded_byte, Run}
 
 -- ---- runs of a section map
 

@@ -1,10 +1,7 @@
 -- What is read of an image as a loader lays it out.
 use Rattle.std.proofs.Common.{◌≡◌, ℕ, ◌+◌, ◌<◌, ◌≤◌, List, length, get_or, Option, Some, sym, ◌∙◌, arith}
-use Rattle.std.proofs.lemmas.List.{get_or_default, same_lists}
-use Rattle.pe_core.specs.Bytes.{range}
-use Rattle.pe_core.proofs.EntryItems.{get_or-each, length-each}
-use Rattle.pe_core.proofs.Ranges.{byte_of_range, length_range}
-use Rattle.pe_directories.specs.LoadedImages.{loaded, loaded_byte}
+use Rattle.pe_directories.proofs.Cited.{get_or_default, same_lists, range, get_or-each, length-each, byte_of_range, length_range, loaded}
+use Rattle.pe_directories.proofs.Cited.{loaded_byte}
 
 pub byte_is : (to_offset : ℕ → Option ℕ) (b : List ℕ) (headers size rva p : ℕ) → rva < size → to_offset rva ≡ Some p
     → get_or (loaded to_offset b headers size) rva 0 ≡ get_or b p 0

@@ -1,15 +1,9 @@
 -- Base relocations change their words alone.
 use Rattle.std.proofs.Common.{◌≡◌, ℕ, zero, suc, ◌+◌, ◌*◌, ◌/◌, ◌%◌, ◌^◌, ◌<◌, ◌≤◌, ◌==◌, Bool, true, List, [], ◌∷◌, length, get_or, refl, ap, sym, subst, ◌∙◌, length-append, length-take, length-drop, arith, rules}
-use Rattle.std.specs.Prelude.{slice_index, if◌then◌else◌}
+use Rattle.pe_directories.proofs.Cited.{slice_index, if◌then◌else◌, nat_tests, places, same_lists, AreBytes, le, range, splice}
+use Rattle.pe_directories.proofs.Cited.{length_range, length-bytes_of, AllPassBy, AllStand, all_moved, moved, stands_in, Word}
 use Rattle.std.proofs.Math.Nat.{mod-eq_of_lt, mul-le-mul_right, pow-suc}
-use Rattle.std.proofs.lemmas.Bool.Decides.{nat_tests}
-use Rattle.std.proofs.lemmas.List.{places, same_lists}
-use Rattle.pe_core.specs.Bytes.{AreBytes, le, range, splice}
 use Rattle.pe_core.proofs.NumberBytes.{bytes_of-le}
-use Rattle.pe_core.proofs.Ranges.{length_range}
-use Rattle.pe_core.proofs.Splices.{length-bytes_of}
-use Rattle.pe_directories.specs.Relocated.{AllPassBy, AllStand, all_moved, moved, stands_in}
-use Rattle.pe_directories.specs.declared.relocating.Word.{Word}
 use Rattle.pe_directories.proofs.WordsLeft.{long_moved}
 
 -- ---- no other byte changes

@@ -1,12 +1,7 @@
 -- The words of a whole table of base relocations, and the bytes that are none of theirs.
 use Rattle.std.proofs.Common.{◌≡◌, ℕ, true, List, [], ◌∷◌, length, get_or, Option, Result, Ok, Err, refl, sym, subst, ◌∙◌, arith}
-use Rattle.std.specs.List.{AllByRecursion}
-use Rattle.pe_core.specs.Refusals.{◌>>=◌}
-use Rattle.pe_directories.specs.DirectoryRefusals.{DirectoryRefusal}
-use Rattle.pe_directories.specs.Relocated.{AllPassBy, AllStand, IsOutside, all_moved, blocks_moved, moved, passes_by, relocated, stands_in, words_of}
-use Rattle.pe_directories.specs.Walks.{each_read}
-use Rattle.pe_directories.specs.declared.base_relocation.BaseRelocation.{BaseRelocation}
-use Rattle.pe_directories.specs.declared.relocating.Word.{Word}
+use Rattle.pe_directories.proofs.Cited.{AllByRecursion, ◌>>=◌, DirectoryRefusal, AllPassBy, AllStand, IsOutside, all_moved, blocks_moved}
+use Rattle.pe_directories.proofs.Cited.{moved, passes_by, relocated, stands_in, words_of, each_read, BaseRelocation, Word}
 use Rattle.pe_directories.proofs.MovedWords.{others_stay}
 use Rattle.pe_directories.proofs.WordsLeft.{long_moved, of_first, word_stands_in}
 

@@ -1,16 +1,9 @@
 -- After a number, a delay import or a bound import fewer bytes are left, after a stream fewer streams, and after an entry of a
 -- table of a load configuration fewer entries.
 use Rattle.std.proofs.Common.{◌≡◌, ℕ, ◌<◌, ◌≤◌, if◌then◌else◌, Bool, List, [], ◌∷◌, length, drop, Some, None, Ok, length-drop, refl, ap, arith}
-use Rattle.std.proofs.lemmas.Bool.Decides.{nat_tests}
-use Rattle.pe_core.specs.Bytes.{holds}
-use Rattle.pe_core.specs.Refusals.{Short, outcome}
+use Rattle.pe_directories.proofs.Cited.{nat_tests, holds, Short, outcome, Stream, first_stream, first_delay_import, delay_imports_end}
+use Rattle.pe_directories.proofs.Cited.{delay_import_at, DelayImport, Image, Guarded, first_guarded, first_va}
 use Rattle.pe_directories.specs.BoundImports.{Bound, first_bound_import, bound_of}
-use Rattle.pe_directories.specs.Clr.{Stream, first_stream}
-use Rattle.pe_directories.specs.DelayImports.{first_delay_import, delay_imports_end, delay_import_at}
-use Rattle.pe_directories.specs.declared.delay_import.DelayImport.{DelayImport}
-use Rattle.pe_directories.specs.DirectoryRefusals.{Image}
-use Rattle.pe_directories.specs.GuardTables.{Guarded, first_guarded}
-use Rattle.pe_directories.specs.VaTables.{first_va}
 
 pub va_shrinks : (is_64 : Bool) (b : List ℕ) (x : ℕ) (t : List ℕ) → first_va is_64 b ≡ Some (Ok (x, t)) → length t < length b
 unfolding first_va

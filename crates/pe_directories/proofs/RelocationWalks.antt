@@ -1,8 +1,6 @@
 -- After a block and after a relocation fewer bytes are left.
 use Rattle.std.proofs.Common.{◌≡◌, ℕ, ◌<◌, List, length, Some, Ok, length-drop, arith}
-use Rattle.std.proofs.lemmas.Bool.Decides.{nat_tests}
-use Rattle.pe_directories.specs.BaseRelocations.{Block, first_block, first_relocation}
-use Rattle.pe_directories.specs.declared.base_relocation.BaseRelocation.{BaseRelocation}
+use Rattle.pe_directories.proofs.Cited.{nat_tests, Block, first_block, first_relocation, BaseRelocation}
 
 pub block_shrinks : (b : List ℕ) (x : Block) (t : List ℕ) → first_block b ≡ Some (Ok (x, t)) → length t < length b
 unfolding first_block

@@ -1,8 +1,6 @@
 -- The search for a Rich header, from the last word back.
 use Rattle.std.proofs.Common.{◌≡◌, ℕ, suc, ◌-◌, ◌/◌, ◌<◌, ◌≤◌, ◌==◌, false, List, length, Option, Some, None, sym, ap, subst, ◌∙◌, arith, if◌then◌else◌}
-use Rattle.std.specs.Option.{is_some, option_map}
-use Rattle.std.specs.Prelude.{IfSome}
-use Rattle.pe_directories.specs.RichHeader.{Rich, last_rich, next_rich, rich_from, rich_header, rich_view, word}
+use Rattle.pe_directories.proofs.Cited.{is_some, option_map, IfSome, Rich, last_rich, next_rich, rich_from, rich_header, rich_view, word}
 use Rattle.pe_directories.specs.declared.rich_header.RichHeader.{RichHeader}
 
 -- no header starts at one of the n words from index left on, and next is the next word Rich from there

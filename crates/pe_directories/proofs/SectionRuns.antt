@@ -1,11 +1,7 @@
 -- Runs of RVAs, by sections that are tested in turn.
 use Rattle.std.proofs.Common.{◌≡◌, ℕ, ◌+◌, ◌-◌, ◌<◌, ◌≤◌, ◌^◌, min, List, [], ◌∷◌, filter, Some, None, refl, arith}
-use Rattle.std.proofs.lemmas.Bool.Decides.{nat_tests}
-use Rattle.pe_core.specs.SectionMap.{covers, first, raw_start, reach}
-use Rattle.pe_core.specs.declared.section_table.SectionTable.{SectionTable}
+use Rattle.pe_directories.proofs.Cited.{nat_tests, covers, first, raw_start, reach, SectionTable, IsRun, in_turn, Run}
 use Rattle.pe_core.proofs.Reaches.{outside}
-use Rattle.pe_directories.specs.LoadedImages.{IsRun, in_turn}
-use Rattle.pe_directories.specs.declared.section_runs.Run.{Run}
 
 -- the sections that were passed cover no RVA of a run, so that the first of those that are left to cover one is the first of all
 pub record Passed (alignment : ℕ) (sections left : List SectionTable) (rva end : ℕ) : Type 0 where

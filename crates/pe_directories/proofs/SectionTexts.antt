@@ -1,7 +1,6 @@
 -- The strings of all sections, from their offsets.
 use Rattle.std.proofs.Common.{◌≡◌, ℕ, ◌<◌, ◌^◌, List, [], ◌∷◌, map, length, refl, arith}
-use Rattle.pe_core.specs.Text.{text_at}
-use Rattle.pe_core.specs.declared.section_table.SectionTable.{SectionTable}
+use Rattle.pe_directories.proofs.Cited.{text_at, SectionTable}
 use Rattle.pe_core.proofs.ExportLists.{text_or_end}
 use Rattle.pe_directories.specs.SectionNames.{long_section_name, text_offset}
 

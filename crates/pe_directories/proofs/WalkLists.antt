@@ -1,12 +1,10 @@
 -- All items of a walk as a list, and what is read of each of them.
 use Rattle.std.proofs.Common.{◌≡◌, ℕ, zero, suc, ◌<◌, List, [], ◌∷◌, ◌++◌, map, length, Option, Some, None, Result, Ok, Err, refl, sym, ◌∙◌, arith}
-use Rattle.std.proofs.lemmas.List.{append-nil, map-append}
+use Rattle.pe_directories.proofs.Cited.{append-nil, map-append, DirectoryRefusal, UnlessNoMemory, directory_answer, directory_kind_of}
+use Rattle.pe_directories.proofs.Cited.{First, Items, ItemsLeft, Steps, with_more, first_items, all_items, each_read, DirectoryError}
 use Rattle.pe_core.specs.Gathered.{with_rest}
 use Rattle.pe_core.proofs.Gathering.{with_one}
 use Rattle.pe_core.proofs.ImportLists.{unless_memory}
-use Rattle.pe_directories.specs.DirectoryRefusals.{DirectoryRefusal, UnlessNoMemory, directory_answer, directory_kind_of}
-use Rattle.pe_directories.specs.Walks.{First, Items, ItemsLeft, Steps, with_more, first_items, all_items, each_read}
-use Rattle.pe_directories.specs.declared.error.DirectoryError.{DirectoryError}
 use Rattle.pe_directories.proofs.WholeWalks.{Shrinks, one_list, ended, one_more, refused}
 
 -- ---- the list has the items of the walk

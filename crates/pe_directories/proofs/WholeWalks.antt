@@ -1,9 +1,7 @@
 -- Whole walks, whatever they are over.
 use Rattle.std.proofs.Common.{◌≡◌, ℕ, zero, suc, ◌+◌, ◌<◌, List, [], ◌∷◌, map, Option, Some, None, Result, Ok, Err, refl, ap, sym, ◌∙◌, subst, arith}
-use Rattle.std.specs.Iterator.{Yields}
-use Rattle.pe_directories.specs.DirectoryRefusals.{DirectoryRefusal, directory_answer, directory_kind_of}
-use Rattle.pe_directories.specs.Walks.{First, Items, ItemsLeft, HasOneList, Steps}
-use Rattle.pe_directories.specs.declared.error.DirectoryError.{DirectoryError}
+use Rattle.pe_directories.proofs.Cited.{Yields, DirectoryRefusal, directory_answer, directory_kind_of, First, Items, ItemsLeft, HasOneList}
+use Rattle.pe_directories.proofs.Cited.{Steps, DirectoryError}
 
 -- each item makes what is left smaller
 abbrev pub Shrinks : {X S : Type 0} → (S → ℕ) → (S → First X S) → Type 0

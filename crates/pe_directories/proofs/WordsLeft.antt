@@ -1,20 +1,10 @@
 -- Base relocations applied: what is read of the relocations that are left, and what they make of the image.
 use Rattle.std.proofs.Common.{◌≡◌, ℕ, ◌==◌, Bool, true, false, List, [], ◌∷◌, ◌++◌, map, length, Option, Some, None, Result, Ok, Err, refl, ap, sym, subst, ◌∙◌, length-append, length-take, length-drop, arith}
-use Rattle.std.proofs.lemmas.Bool.Decides.{nat_tests}
-use Rattle.pe_core.specs.Bytes.{bytes_of, splice}
+use Rattle.pe_directories.proofs.Cited.{nat_tests, bytes_of, splice, ◌>>=◌, length-bytes_of, length-splice, Block, block_view, blocks_left}
+use Rattle.pe_directories.proofs.Cited.{first_block, first_relocation, page_of, relocations_left, DirectoryRefusal, directory_answer}
+use Rattle.pe_directories.proofs.Cited.{all_moved, base_words, block_words, blocks_moved, moved, stands_in, word_of, Steps, all_items}
+use Rattle.pe_directories.proofs.Cited.{each_read, BaseRelocation, BaseRelocations, RelocationBlock, RelocationBlocks, DirectoryError, Word}
 use Rattle.pe_core.specs.Gathered.{all_or_refusal, with_rest}
-use Rattle.pe_core.specs.Refusals.{◌>>=◌}
-use Rattle.pe_core.proofs.Splices.{length-bytes_of, length-splice}
-use Rattle.pe_directories.specs.BaseRelocations.{Block, block_view, blocks_left, first_block, first_relocation, page_of, relocations_left}
-use Rattle.pe_directories.specs.DirectoryRefusals.{DirectoryRefusal, directory_answer}
-use Rattle.pe_directories.specs.Relocated.{all_moved, base_words, block_words, blocks_moved, moved, stands_in, word_of}
-use Rattle.pe_directories.specs.Walks.{Steps, all_items, each_read}
-use Rattle.pe_directories.specs.declared.base_relocation.BaseRelocation.{BaseRelocation}
-use Rattle.pe_directories.specs.declared.base_relocation.BaseRelocations.{BaseRelocations}
-use Rattle.pe_directories.specs.declared.base_relocation.RelocationBlock.{RelocationBlock}
-use Rattle.pe_directories.specs.declared.base_relocation.RelocationBlocks.{RelocationBlocks}
-use Rattle.pe_directories.specs.declared.error.DirectoryError.{DirectoryError}
-use Rattle.pe_directories.specs.declared.relocating.Word.{Word}
 use Rattle.pe_directories.proofs.RelocationWalks.{block_shrinks, relocation_shrinks}
 use Rattle.pe_directories.proofs.WalkLists.{ReadSoFar, all_read, first_taken, none_left, one_read}
 

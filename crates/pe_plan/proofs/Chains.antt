@@ -1,10 +1,6 @@
 -- Chains of records: one after the other, and the beginnings of one.
 use Rattle.std.proofs.Common.{◌≡◌, ℕ, zero, suc, ◌≤◌, List, [], ◌∷◌, ◌++◌, length, Option, Some, None, Ok, refl, ap, sym, subst, arith}
-use Rattle.pe_unwind.specs.declared.function_table.RuntimeFunction.{RuntimeFunction}
-use Rattle.pe_unwind.specs.Links.{Table}
-use Rattle.pe_unwind.specs.UnwindRecord.{UnwindInfoView}
-use Rattle.pe_unwind.specs.Unwinding.{Unwinds}
-use Rattle.pe_plan.specs.Plans.{IsChain, HasChained}
+use Rattle.pe_plan.proofs.Cited.{RuntimeFunction, Table, UnwindInfoView, Unwinds, IsChain, HasChained}
 
 -- a chain that starts where another ends
 pub joined : (t : Table) (b : List ℕ) (start middle end : Option RuntimeFunction) (is js : List UnwindInfoView) → IsChain t b start is middle → IsChain t b middle js end → IsChain t b start (is ++ js) end

@@ -1,11 +1,7 @@
 -- Chains that come to an end: they go on for ever neither in records nor in links.
 use Rattle.std.proofs.Common.{◌≡◌, ◌≢◌, ℕ, suc, ◌≤◌, List, [], ◌∷◌, length, Option, Some, None, Result, Ok, Err, ⊎_elim, ◌↔◌, refl, sym, ◌∙◌, subst, arith}
-use Rattle.pe_core.specs.Refusals.{Refusal, Memory, FunctionCycle}
-use Rattle.pe_unwind.specs.declared.function_table.RuntimeFunction.{RuntimeFunction}
-use Rattle.pe_unwind.specs.Links.{Table, IsEndless}
-use Rattle.pe_unwind.specs.UnwindRecord.{UnwindInfoView}
-use Rattle.pe_unwind.specs.Unwinding.{Unwinds}
-use Rattle.pe_plan.specs.Plans.{IsChain, ComesTo, HasChained, NeverEnds, PlansFrom}
+use Rattle.pe_plan.proofs.Cited.{Refusal, Memory, FunctionCycle, RuntimeFunction, Table, IsEndless, UnwindInfoView, Unwinds, IsChain}
+use Rattle.pe_plan.proofs.Cited.{ComesTo, HasChained, NeverEnds, PlansFrom}
 use Rattle.pe_plan.proofs.RecordLaw.{RecordLaw}
 
 -- where a chain ends: after a root, or at a function whose record is refused, but for a cycle

@@ -1,3 +1,4 @@
+mod Cited
 pub mod RecordLaw
 pub mod Chains
 pub mod Rings

@@ -1,12 +1,7 @@
 -- The records of a chain up to a function, with one unwind address on the way that is saved.
 use Rattle.std.proofs.Common.{◌≡◌, ℕ, List, [], ◌∷◌, ◌++◌, Option, Some, None, Ok, Err, inl, inr, refl, sym, ◌∙◌, subst, arith, length-append}
-use Rattle.pe_core.specs.Refusals.{Refusal, Memory, FunctionCycle}
-use Rattle.pe_unwind.specs.declared.function_table.RuntimeFunction.{RuntimeFunction}
-use Rattle.pe_unwind.specs.Links.{Table}
-use Rattle.pe_unwind.specs.UnwindRecord.{UnwindInfoView}
-use Rattle.pe_unwind.specs.Unwinding.{Unwinds}
-use Rattle.pe_plan.specs.Plans.{IsChain, NeverEnds}
-use Rattle.pe_plan.specs.PlanSteps.{Counts}
+use Rattle.pe_plan.proofs.Cited.{Refusal, Memory, FunctionCycle, RuntimeFunction, Table, UnwindInfoView, Unwinds, IsChain, NeverEnds}
+use Rattle.pe_plan.proofs.Cited.{Counts}
 use Rattle.pe_plan.proofs.Chains.{one_more}
 use Rattle.pe_plan.proofs.Rings.{ring_goes_on}
 use Rattle.pe_plan.proofs.RecordLaw.{RecordLaw}

@@ -1,11 +1,6 @@
 -- A function has one plan, allocation failure aside.
 use Rattle.std.proofs.Common.{◌≡◌, ◌≢◌, ℕ, List, [], ◌∷◌, Option, Some, None, Result, Ok, Err, ◌⊎◌, inl, inr, ⊎_elim, refl, ap, sym, ◌∙◌}
-use Rattle.pe_core.specs.Refusals.{Refusal, Memory, FunctionCycle}
-use Rattle.pe_unwind.specs.declared.function_table.RuntimeFunction.{RuntimeFunction}
-use Rattle.pe_unwind.specs.Links.{Table}
-use Rattle.pe_unwind.specs.UnwindRecord.{UnwindInfoView}
-use Rattle.pe_unwind.specs.Unwinding.{Unwinds}
-use Rattle.pe_plan.specs.Plans.{IsChain, PlansFrom}
+use Rattle.pe_plan.proofs.Cited.{Refusal, Memory, FunctionCycle, RuntimeFunction, Table, UnwindInfoView, Unwinds, IsChain, PlansFrom}
 use Rattle.pe_plan.proofs.Endings.{IsEnd, no_record, same_record, follows_same, ends, plan_cycle}
 use Rattle.pe_plan.proofs.RecordLaw.{RecordLaw}
 

@@ -1,14 +1,7 @@
 -- The plan of a function in an array: what is read so far is the start of the chain.
 use Rattle.std.proofs.Common.{◌≡◌, ℕ, ◌<◌, ◌≤◌, List, length, map, take, Option, Some, None, Ok, Err, ◌∙◌, arith}
-use Rattle.std.proofs.lemmas.List.{length-map, length-take-le}
-use Rattle.pe_core.specs.Refusals.{Refusal}
-use Rattle.pe_unwind.specs.Links.{Table}
-use Rattle.pe_unwind.specs.UnwindRecord.{unwind_view}
-use Rattle.pe_unwind.specs.Unwinding.{Unwinds}
-use Rattle.pe_unwind.specs.declared.function_table.RuntimeFunction.{RuntimeFunction}
-use Rattle.pe_unwind.specs.declared.unwind_info.UnwindInfo.{UnwindInfo}
-use Rattle.pe_plan.specs.Plans.{IsChain}
-use Rattle.pe_plan.specs.ShortPlans.{PlansShort, PlansUpTo, most_records}
+use Rattle.pe_plan.proofs.Cited.{length-map, length-take-le, Refusal, Table, unwind_view, Unwinds, RuntimeFunction, UnwindInfo, IsChain}
+use Rattle.pe_plan.proofs.Cited.{PlansShort, PlansUpTo, most_records}
 
 many_taken : (xs : List UnwindInfo) (n : ℕ) → n ≤ length xs → length (map unwind_view (take n xs)) ≡ n
 many_taken xs n le = length-map (take n xs) unwind_view ∙ length-take-le n xs le

@@ -1,9 +1,6 @@
 -- What pe_unwind's law `one_record_of_addresses` says, as the lemmas take it.
 use Rattle.std.proofs.Common.{◌≡◌, ◌↔◌, ℕ, List, Result, Err}
-use Rattle.pe_core.specs.Refusals.{Refusal, Memory, FunctionCycle}
-use Rattle.pe_unwind.specs.Links.{Table, IsEndless}
-use Rattle.pe_unwind.specs.UnwindRecord.{UnwindInfoView}
-use Rattle.pe_unwind.specs.Unwinding.{Unwinds}
+use Rattle.pe_plan.proofs.Cited.{Refusal, Memory, FunctionCycle, Table, IsEndless, UnwindInfoView, Unwinds}
 
 pub record RecordLaw : Type 0 where
   pub exists : (t : Table) (b : List ℕ) (u : ℕ) → (x : Result UnwindInfoView Refusal) × Unwinds t b u x

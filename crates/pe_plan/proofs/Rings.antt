@@ -6,10 +6,7 @@ use Rattle.std.proofs.lemmas.Bool.Decides.{nat_tests}
 use Rattle.std.proofs.lemmas.Map.Keys.{IsDistinct-cons}
 use Rattle.std.proofs.lemmas.Map.Steps.{length-le_from_distinct_below}
 use Rattle.pe_core.proofs.Pigeonhole.{or_second}
-use Rattle.pe_unwind.specs.declared.function_table.RuntimeFunction.{RuntimeFunction}
-use Rattle.pe_unwind.specs.Links.{Table}
-use Rattle.pe_unwind.specs.UnwindRecord.{UnwindInfoView}
-use Rattle.pe_plan.specs.Plans.{IsChain, HasChained}
+use Rattle.pe_plan.proofs.Cited.{RuntimeFunction, Table, UnwindInfoView, IsChain, HasChained}
 use Rattle.pe_plan.proofs.Chains.{joined, same_address, beginning}
 
 -- the chain comes to a function, and from there on, by one record at least, to another with the same unwind address

@@ -1,15 +1,11 @@
 -- A chain that ends after its last record ends at a root.
 use Rattle.std.proofs.Common.{◌≡◌, ◌↔◌, ℕ, List, [], ◌∷◌, Option, Some, None, Result, Ok, IsSome, refl, ap, arith}
 use Rattle.std.proofs.lemmas.List.Elements.{All-cons, All-nil}
-use Rattle.pe_core.specs.Refusals.{Refusal}
+use Rattle.pe_plan.proofs.Cited.{Refusal, RuntimeFunction, Table, UnwindInfoView, EndsAtRoot, IsChain, Plans, PlansFrom}
 use Rattle.pe_core.specs.declared.options.ParseOptions.{ParseOptions}
 use Rattle.pe_core.specs.declared.section_table.SectionTable.{SectionTable}
-use Rattle.pe_unwind.specs.declared.function_table.RuntimeFunction.{RuntimeFunction}
 use Rattle.pe_unwind.specs.ExceptionTable.{ExceptionView, table_of}
 use Rattle.pe_unwind.specs.FunctionTable.{NeverFalls, functions, scan}
-use Rattle.pe_unwind.specs.Links.{Table}
-use Rattle.pe_unwind.specs.UnwindRecord.{UnwindInfoView}
-use Rattle.pe_plan.specs.Plans.{EndsAtRoot, IsChain, Plans, PlansFrom}
 
 one_root : (i : UnwindInfoView) → i.chained_info ≡ None → EndsAtRoot (i ∷ [])
 one_root i root = record { chained = []; root = i; records = refl; are_chained = All-nil (λ i. IsSome i.chained_info); is_root = root }

@@ -1,19 +1,12 @@
 -- Short plans: their records in an array that has more places, and that they are plans.
 use Rattle.std.proofs.Common.{◌≡◌, ℕ, ◌+◌, ◌<◌, List, [], ◌∷◌, length, map, take, slice_index_or, slice_set, Option, Some, None, Ok, Err, refl, sym, ◌∙◌, arith, rules}
-use Rattle.std.proofs.lemmas.List.{length-map, length-take-le, map_push, take_more, take_more_set}
-use Rattle.pe_core.specs.Refusals.{Refusal}
-use Rattle.pe_unwind.specs.Links.{Table}
-use Rattle.pe_unwind.specs.UnwindRecord.{UnwindInfoView, unwind_view}
-use Rattle.pe_unwind.specs.Unwinding.{Unwinds}
-use Rattle.pe_unwind.specs.declared.function_table.RuntimeFunction.{RuntimeFunction}
-use Rattle.pe_unwind.specs.declared.unwind_info.UnwindInfo.{UnwindInfo}
-use Rattle.pe_plan.specs.Plans.{IsChain, PlansFrom}
+use Rattle.pe_plan.proofs.Cited.{length-map, length-take-le, map_push, take_more, take_more_set, Refusal, Table, UnwindInfoView}
+use Rattle.pe_plan.proofs.Cited.{unwind_view, Unwinds, RuntimeFunction, UnwindInfo, IsChain, PlansFrom, PlansShort, most_records}
 use Rattle.pe_plan.proofs.Chains.{one_more}
 use Rattle.pe_plan.proofs.Endings.{no_record, follows_same}
 use Rattle.pe_plan.proofs.Marks.{comes_to_refusal}
 use Rattle.pe_plan.proofs.RecordLaw.{RecordLaw}
 use Rattle.pe_plan.proofs.Walks.{counted}
-use Rattle.pe_plan.specs.ShortPlans.{PlansShort, most_records}
 
 -- one record more
 pub chain_more : (t : Table) (b : List ℕ) (start : Option RuntimeFunction) (g : RuntimeFunction) (xs : List UnwindInfo) (x : UnwindInfo) (n : ℕ) → n < length xs →

@@ -1,14 +1,7 @@
 -- The two walks over a chain: to count its records, and to take them.
 use Rattle.std.proofs.Common.{◌≡◌, ℕ, suc, ◌+◌, ◌^◌, ◌<◌, ◌≤◌, List, [], ◌∷◌, ◌++◌, length, Option, Some, None, Result, Ok, Err, IfSome, map, inl, refl, sym, subst, arith, length-append}
-use Rattle.std.proofs.lemmas.List.{length-map, map_push}
-use Rattle.pe_core.specs.Refusals.{Refusal}
-use Rattle.pe_unwind.specs.declared.function_table.RuntimeFunction.{RuntimeFunction}
-use Rattle.pe_unwind.specs.Links.{Table}
-use Rattle.pe_unwind.specs.UnwindRecord.{UnwindInfoView, unwind_view}
-use Rattle.pe_unwind.specs.declared.unwind_info.UnwindInfo.{UnwindInfo}
-use Rattle.pe_unwind.specs.Unwinding.{Unwinds}
-use Rattle.pe_plan.specs.Plans.{IsChain, NeverEnds, PlansFrom}
-use Rattle.pe_plan.specs.PlanSteps.{HasLength, Counts, Takes}
+use Rattle.pe_plan.proofs.Cited.{length-map, map_push, Refusal, RuntimeFunction, Table, UnwindInfoView, unwind_view, UnwindInfo, Unwinds}
+use Rattle.pe_plan.proofs.Cited.{IsChain, NeverEnds, PlansFrom, HasLength, Counts, Takes}
 use Rattle.pe_plan.proofs.Chains.{one_more}
 use Rattle.pe_plan.proofs.Marks.{Marked, starts, keeps, moves, comes_to_root}
 use Rattle.pe_plan.proofs.Rings.{AreBelow, below_more, many_go_on}

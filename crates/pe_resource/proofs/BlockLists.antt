@@ -1,12 +1,6 @@
 -- The blocks of a byte string, one by one.
 use Rattle.std.proofs.Common.{◌≡◌, ℕ, zero, suc, ◌<◌, ◌≤◌, ◌==◌, Bool, true, false, List, [], ◌∷◌, length, take, length-drop, map, Option, Some, None, Result, Ok, Err, refl, ap, sym, ◌∙◌, subst, arith, IsTrue, ◌↔◌}
-use Rattle.std.proofs.lemmas.Bool.{false≢true}
-use Rattle.std.proofs.lemmas.Bool.Decides.{nat_tests}
-use Rattle.std.proofs.lemmas.List.{places, take_all}
-use Rattle.std.proofs.lemmas.Slice.Eq.{bytes_eq-Decides}
-use Rattle.std.specs.Str.{bytes_eq}
-use Rattle.std.specs.Iterator.{Yields}
-use Rattle.std.specs.Option.{is_some}
+use Rattle.pe_resource.proofs.Cited.{false≢true, nat_tests, places, take_all, bytes_eq-Decides, bytes_eq, Yields, is_some}
 use Rattle.pe_resource.specs.declared.version_block.VersionBlock.{VersionBlock}
 use Rattle.pe_resource.specs.declared.version_block.VersionBlocks.{VersionBlocks}
 use Rattle.pe_resource.specs.declared.version_block_error.VersionBlockError.{VersionBlockError}

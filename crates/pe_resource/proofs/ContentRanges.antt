@@ -1,20 +1,12 @@
 -- What the ranges of contents hold.
 use Rattle.std.proofs.Common.{◌≡◌, ℕ, List, Option, Some, None, Result, Ok, Err, refl, ap, sym, ◌∙◌, subst, arith}
-use Rattle.std.proofs.lemmas.Bool.Decides.{nat_tests}
-use Rattle.pe_core.proofs.Steps.{same_inside}
-use Rattle.pe_core.specs.Offsets.{IsWithin}
-use Rattle.pe_core.specs.Refusals.{Refusal, ◌>>=◌}
-use Rattle.pe_core.specs.declared.byte_range.ByteRange.{ByteRange}
-use Rattle.pe_core.specs.declared.data_directories.DataDirectory.{DataDirectory}
-use Rattle.pe_core.specs.declared.options.ParseOptions.{ParseOptions}
-use Rattle.pe_core.specs.declared.section_table.SectionTable.{SectionTable}
-use Rattle.pe_resource.specs.declared.entry.ResourceEntry.{ResourceEntry}
+use Rattle.pe_resource.proofs.Cited.{nat_tests, same_inside, IsWithin, Refusal, ◌>>=◌, ByteRange, DataDirectory, ParseOptions, SectionTable}
+use Rattle.pe_resource.proofs.Cited.{ResourceEntry, map_of, IsThere, file_range, named_range, range_in, IsContentRange, content_of}
+use Rattle.pe_resource.proofs.Cited.{IsContent, version_of_content, IsVersion, VersionView, file_strings, fixed_info_of, version_key}
+use Rattle.pe_resource.proofs.Cited.{value_named, version_in, value_range_in, VersionString, strings, read, value_of, value_range}
 use Rattle.pe_resource.specs.declared.version.VersionName.{VersionName}
 use Rattle.pe_resource.specs.declared.version.VsFixedFileInfo.{VsFixedFileInfo}
-use Rattle.pe_resource.specs.Contents.{map_of, IsThere, file_range, named_range, range_in, IsContentRange, content_of, IsContent, version_of_content, IsVersion}
 use Rattle.pe_resource.specs.Resources.{ResourceView, no_resources, FirstDirectoryView, first_directory, IsOfFirst, AreResources, IsResource, IsResourceRange, IsManifestIn, IsVersionIn}
-use Rattle.pe_resource.specs.VersionFields.{VersionView, file_strings, fixed_info_of, version_key, value_named, version_in, value_range_in}
-use Rattle.pe_resource.specs.VersionStrings.{VersionString, strings, read, value_of, value_range}
 use Rattle.pe_resource.proofs.OneAnswer.{one_content}
 use Rattle.pe_resource.proofs.ValueRanges.{value_there}
 

@@ -1,14 +1,9 @@
 -- What entries lead to, put together.
 use Rattle.std.proofs.Common.{◌≡◌, ℕ, List, Option, Some, Result, Ok, Err, refl, ap, ◌∙◌, subst, arith}
-use Rattle.pe_core.specs.Refusals.{Refusal, ReturnsAs, ◌>>=◌, answer_by}
-use Rattle.pe_core.specs.declared.byte_range.ByteRange.{ByteRange}
-use Rattle.pe_core.specs.declared.error.Error.{Error}
-use Rattle.pe_resource.specs.declared.entry.ResourceEntry.{ResourceEntry}
-use Rattle.pe_resource.specs.Contents.{IsLeaf, named_range, range_in, IsContentRange, content_of, IsContent, version_of_content, IsVersion}
-use Rattle.pe_resource.specs.ResourceEntries.{is_directory, data_offset}
-use Rattle.pe_resource.specs.ResourceWalk.{Walks}
+use Rattle.pe_resource.proofs.Cited.{Refusal, ReturnsAs, ◌>>=◌, answer_by, ByteRange, Error, ResourceEntry, IsLeaf, named_range, range_in}
+use Rattle.pe_resource.proofs.Cited.{IsContentRange, content_of, IsContent, version_of_content, IsVersion, is_directory, data_offset, Walks}
+use Rattle.pe_resource.proofs.Cited.{VersionView}
 use Rattle.pe_resource.specs.Resources.{FirstDirectoryView, resources_with, AreResources}
-use Rattle.pe_resource.specs.VersionFields.{VersionView}
 use Rattle.pe_resource.proofs.SomeResource.{some_content}
 
 pub given_answer : {X Y : Type 0} (view : X → Y) (r : Result X Error) (d : Result Y Refusal) → ReturnsAs view r d → answer_by view r ≡ d

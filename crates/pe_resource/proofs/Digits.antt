@@ -1,11 +1,8 @@
 -- A number by its hexadecimal digits in UTF-16.
 use Rattle.std.proofs.Common.{◌≡◌, ℕ, suc, ◌+◌, ◌*◌, ◌/◌, ◌<◌, ◌≤◌, ◌∷◌, List, length, drop, Some, None, refl, arith, drop-cons, add-one}
-use Rattle.std.proofs.lemmas.List.{drop_all}
-use Rattle.pe_core.specs.Bytes.{le}
-use Rattle.pe_core.specs.HexDigits.{digit_of, number_after}
-use Rattle.pe_core.proofs.HexDigits.{power_more, power_small, after-nil, after-digit, after-none}
+use Rattle.pe_resource.proofs.Cited.{drop_all, le, digit_of, number_after, power_more, power_small, after-nil, after-digit, after-none}
+use Rattle.pe_resource.proofs.Cited.{units}
 use Rattle.pe_resource.proofs.Units.{units_count, unit_at}
-use Rattle.pe_resource.specs.VersionStrings.{units}
 
 front_of : (b : List ℕ) (i : ℕ) → i < length b / 2 → drop i (units b) ≡ le b (2 * i) 2 ∷ drop (suc i) (units b)
 front_of b i h = let e = unit_at b i h in rw (drop-cons (units b) i 0 (omega (arith, units_count b, h)), e) refl

@@ -1,9 +1,8 @@
 -- Entries from the front.
 use Rattle.std.proofs.Common.{◌≡◌, ℕ, ◌/◌, ◌<◌, ◌≤◌, List, [], ◌∷◌, length, map, drop, None, sym, subst, arith}
-use Rattle.std.specs.Iterator.{Yields, YieldsFirstBy}
+use Rattle.pe_resource.proofs.Cited.{Yields, YieldsFirstBy, entry_at, entries}
 use Rattle.pe_core.proofs.EntryItems.{whole_entries_more, whole_entries_none, count_of_whole_entries}
 use Rattle.pe_resource.specs.EntriesAfter.{entries_after}
-use Rattle.pe_resource.specs.ResourceEntries.{entry_at, entries}
 
 -- one entry and those after it
 pub entries_more : (b : List ℕ) → 8 ≤ length b → entries b ≡ entry_at b 0 ∷ entries (drop 8 b)

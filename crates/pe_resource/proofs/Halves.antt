@@ -1,9 +1,7 @@
 -- Numbers and their halves.
 use Rattle.std.proofs.Common.{◌≡◌, ℕ, ◌<◌, ◌^◌, arith}
-use Rattle.pe_resource.specs.declared.entry.ResourceEntry.{ResourceEntry}
+use Rattle.pe_resource.proofs.Cited.{ResourceEntry, entry_of_number, number_of, version_of_halves, high_half, low_half}
 use Rattle.pe_resource.specs.declared.version.VersionField.{VersionField}
-use Rattle.pe_resource.specs.ResourceEntries.{entry_of_number, number_of}
-use Rattle.pe_resource.specs.VersionFields.{version_of_halves, high_half, low_half}
 
 pub number_back : (n : ℕ) → n < 2 ^ 64 → number_of (entry_of_number n) ≡ n
 number_back n h = omega arith

@@ -1,9 +1,6 @@
 -- The units of a key.
 use Rattle.std.proofs.Common.{◌≡◌, ℕ, ◌+◌, ◌*◌, ◌<◌, ◌≤◌, ◌≢◌, List, ◌∷◌, length, length-drop, add-zero, drop, get_or, ap, ◌∙◌, arith}
-use Rattle.std.proofs.lemmas.Bool.Decides.{nat_tests}
-use Rattle.std.proofs.lemmas.List.{drop_more}
-use Rattle.pe_core.specs.Bytes.{le}
-use Rattle.pe_resource.specs.VersionStrings.{units, before_zero, key_length}
+use Rattle.pe_resource.proofs.Cited.{nat_tests, drop_more, le, units, before_zero, key_length}
 
 -- how many units stand before the first zero unit
 abbrev front : List ℕ → ℕ

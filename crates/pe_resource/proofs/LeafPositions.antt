@@ -1,14 +1,9 @@
 -- Positions that are not in the data, and the last one.
 use Rattle.std.proofs.Common.{◌≡◌, ℕ, Bool, true, List, [], ◌∷◌, Result, Err, refl, arith}
-use Rattle.std.specs.Prelude.{◌&&◌, if◌then◌else◌}
-use Rattle.std.proofs.lemmas.Bool.Decides.{nat_tests}
-use Rattle.pe_core.specs.Bytes.{holds}
-use Rattle.pe_core.specs.Refusals.{Refusal, Short, outcome}
+use Rattle.pe_resource.proofs.Cited.{◌&&◌, if◌then◌else◌, nat_tests, holds, Refusal, Short, outcome, TreeRefusal, Image, ResourceLeaf}
 use Rattle.pe_resource.proofs.Entries.{entries_empty}
 use Rattle.pe_resource.specs.LeafPositions.{leaves_at, no_position, position_after, position_test}
-use Rattle.pe_resource.specs.Leaves.{TreeRefusal, Image}
 use Rattle.pe_resource.specs.declared.leaf_position.LeafPosition.{LeafPosition}
-use Rattle.pe_resource.specs.declared.leaves.ResourceLeaf.{ResourceLeaf}
 
 by_tests : (items : List (Result ResourceLeaf TreeRefusal)) (r : Refusal) (x y z : Bool) → ◌≡◌ {A = Result (Unit {0}) Refusal} (outcome ((x, Short) ∷ (y, Short) ∷ (z, Short) ∷ []) tt) (Err r) →
     (if x && (y && z) then items else Err (Image Short) ∷ []) ≡ Err (Image r) ∷ []

@@ -1,15 +1,8 @@
 -- The leaves that a walk has left, by what it takes next: a language, a name, a type.
 use Rattle.std.proofs.Common.{◌≡◌, ℕ, ◌+◌, ◌-◌, ◌*◌, ◌<◌, ◌≤◌, List, [], ◌∷◌, ◌++◌, length, map, Result, Ok, refl, arith}
-use Rattle.std.specs.List.{flat_map}
-use Rattle.std.proofs.lemmas.List.{append_assoc}
-use Rattle.std.proofs.lemmas.Bool.Decides.{nat_tests}
-use Rattle.pe_core.proofs.Ranges.{length_range, rest_of_range}
-use Rattle.pe_core.specs.Bytes.{range, record_at}
-use Rattle.pe_resource.specs.declared.entry.ResourceEntry.{ResourceEntry}
-use Rattle.pe_resource.specs.declared.leaves.ResourceLeaf.{ResourceLeaf}
-use Rattle.pe_resource.specs.ResourceEntries.{entry_at, entries}
+use Rattle.pe_resource.proofs.Cited.{flat_map, append_assoc, nat_tests, length_range, rest_of_range, range, record_at, ResourceEntry}
+use Rattle.pe_resource.proofs.Cited.{ResourceLeaf, entry_at, entries, TreeRefusal, leaf_of, leaves_of_name, leaves_of_type, leaves_from}
 use Rattle.pe_resource.proofs.Entries.{entries_count, entries_more, entries_none}
-use Rattle.pe_resource.specs.Leaves.{TreeRefusal, leaf_of, leaves_of_name, leaves_of_type, leaves_from}
 
 abbrev Item : Type 0
 Item = Result ResourceLeaf TreeRefusal

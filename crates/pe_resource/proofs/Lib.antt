@@ -1,3 +1,4 @@
+mod Cited
 pub mod Entries
 pub mod Walks
 pub mod Keys

@@ -1,17 +1,10 @@
 -- A key's units are a plain name's exactly where its text is the name.
 use Rattle.std.proofs.Common.{◌≡◌, ℕ, zero, suc, get_or, ◌<◌, ◌+◌, ◌-◌, ◌*◌, ◌%◌, ◌==◌, ◌&&◌, Bool, true, false, not, List, [], ◌∷◌, ◌++◌, map, length, take, drop, take_all, ◌≤◌, Option, Some, None, is_some, unwrap_or, if◌then◌else◌, ◌↔◌, refl, ap, sym, ◌∙◌, subst, arith, IsTrue}
-use Rattle.std.proofs.lemmas.Bool.{false≢true}
-use Rattle.std.proofs.lemmas.Bool.Decides.{nat_tests}
-use Rattle.std.proofs.lemmas.List.{places}
+use Rattle.pe_resource.proofs.Cited.{false≢true, nat_tests, places, range, bytes_eq-Decides, list_all, list_any, nat_lt, encode_utf8_all}
+use Rattle.pe_resource.proofs.Cited.{units, before_zero, key_length, text, is_name, is_plain, IsPlain, ArePlain}
 use Rattle.pe_core.proofs.Equality.{both}
-use Rattle.pe_core.specs.Bytes.{range}
-use Rattle.std.proofs.lemmas.Slice.Eq.{bytes_eq-Decides}
 use Rattle.std.proofs.lemmas.Str.{encode_ascii, encodes_same}
 use Rattle.std.specs.Char.Utf16.{utf16_chars, lone_unit_char, is_high_surrogate, is_low_surrogate, has_unpaired_surrogate, utf16_lossy_chars}
-use Rattle.std.specs.List.{list_all, list_any}
-use Rattle.std.specs.Prelude.{nat_lt}
-use Rattle.std.specs.Str.{encode_utf8_all}
-use Rattle.pe_resource.specs.VersionStrings.{units, before_zero, key_length, text, is_name, is_plain, IsPlain, ArePlain}
 
 -- ---- characters below 128
 

@@ -1,21 +1,14 @@
 -- No definition of resources is ever refused as out of memory.
 use Rattle.std.proofs.Common.{ℕ, zero, suc, ◌==◌, Bool, List, [], length, Option, Some, None, Result, Ok, Err, if◌then◌else◌, sym, subst, arith}
-use Rattle.std.specs.Prelude.{codes}
-use Rattle.pe_core.specs.Offsets.{bytes_in}
-use Rattle.pe_core.specs.Refusals.{Refusal}
+use Rattle.pe_resource.proofs.Cited.{codes, bytes_in, Refusal, DataDirectory, ParseOptions, SectionTable, Lacks, outcome_lacks, then_lacks}
+use Rattle.pe_resource.proofs.Cited.{if_lacks, one_test_lacks, ImageResourceDirectory, ResourceEntry, map_of, IsLeaf, file_range}
+use Rattle.pe_resource.proofs.Cited.{file_bytes, named_range, range_in, IsContent, version_of_content, IsVersion, VersionView, version_in}
+use Rattle.pe_resource.proofs.Cited.{fixed_info_of, fixed_info_in, VersionString, version_string_at, whole_string_at, then_more, strings_in}
+use Rattle.pe_resource.proofs.Cited.{strings, read, all_read, value_of}
 use Rattle.pe_core.specs.SectionMap.{section_map}
-use Rattle.pe_core.specs.declared.data_directories.DataDirectory.{DataDirectory}
 use Rattle.pe_core.specs.declared.options.ParseMode.{ParseMode}
-use Rattle.pe_core.specs.declared.options.ParseOptions.{ParseOptions}
-use Rattle.pe_core.specs.declared.section_table.SectionTable.{SectionTable}
-use Rattle.pe_core.proofs.NoMemory.{Lacks, outcome_lacks, then_lacks, if_lacks, one_test_lacks}
-use Rattle.pe_resource.specs.declared.directory.ImageResourceDirectory.{ImageResourceDirectory}
-use Rattle.pe_resource.specs.declared.entry.ResourceEntry.{ResourceEntry}
-use Rattle.pe_resource.specs.Contents.{map_of, IsLeaf, file_range, file_bytes, named_range, range_in, IsContent, version_of_content, IsVersion}
 use Rattle.pe_resource.specs.Directories.{directory_at, directory_at_offset}
 use Rattle.pe_resource.specs.Resources.{ResourceView, no_resources, first_entries_in, FirstDirectoryView, first_directory, IsOfFirst, AreResources, IsResource}
-use Rattle.pe_resource.specs.VersionFields.{VersionView, version_in, fixed_info_of, fixed_info_in}
-use Rattle.pe_resource.specs.VersionStrings.{VersionString, version_string_at, whole_string_at, then_more, strings_in, strings, read, all_read, value_of}
 
 -- ---- contents
 

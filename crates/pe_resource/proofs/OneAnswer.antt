@@ -1,16 +1,8 @@
 -- A walk has one answer, and so has what stands on it.
 use Rattle.std.proofs.Common.{◌≡◌, ℕ, Bool, List, Option, Some, None, Result, Ok, Err, ap, sym, ◌∙◌, arith}
-use Rattle.pe_core.specs.Refusals.{Refusal, ◌>>=◌}
-use Rattle.pe_core.specs.declared.byte_range.ByteRange.{ByteRange}
-use Rattle.pe_core.specs.declared.data_directories.DataDirectory.{DataDirectory}
-use Rattle.pe_core.specs.declared.options.ParseOptions.{ParseOptions}
-use Rattle.pe_core.specs.declared.section_table.SectionTable.{SectionTable}
-use Rattle.pe_core.proofs.Pigeonhole.{stop_once}
-use Rattle.pe_resource.specs.declared.entry.ResourceEntry.{ResourceEntry}
-use Rattle.pe_resource.specs.Contents.{map_of, IsLeaf, IsContentRange, content_of, IsContent, version_of_content, IsVersion}
-use Rattle.pe_resource.specs.ResourceWalk.{Walks}
+use Rattle.pe_resource.proofs.Cited.{Refusal, ◌>>=◌, ByteRange, DataDirectory, ParseOptions, SectionTable, stop_once, ResourceEntry, map_of}
+use Rattle.pe_resource.proofs.Cited.{IsLeaf, IsContentRange, content_of, IsContent, version_of_content, IsVersion, Walks, VersionView}
 use Rattle.pe_resource.specs.Resources.{ResourceView, no_resources, FirstDirectoryView, first_directory, IsOfFirst, AreResources, IsResource, IsResourceRange}
-use Rattle.pe_resource.specs.VersionFields.{VersionView}
 use Rattle.pe_resource.proofs.Walks.{none_from_decided, cycle_is_endless}
 
 some_once : (r s : Result ResourceEntry Refusal) → Some r ≡ Some s → r ≡ s

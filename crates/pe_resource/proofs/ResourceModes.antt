@@ -1,15 +1,9 @@
 -- What strict mode returns, permissive mode returns too.
 use Rattle.std.proofs.Common.{◌≡◌, ℕ, List, Option, Result, Ok, Err, sym, subst, arith}
-use Rattle.std.specs.Option.{option_map}
-use Rattle.pe_core.specs.Refusals.{Refusal, ◌>>=◌}
-use Rattle.pe_core.specs.declared.data_directories.DataDirectory.{DataDirectory}
+use Rattle.pe_resource.proofs.Cited.{option_map, Refusal, ◌>>=◌, DataDirectory, ParseOptions, SectionTable, ImageResourceDirectory, map_of}
+use Rattle.pe_resource.proofs.Cited.{entries}
 use Rattle.pe_core.specs.declared.options.ParseMode.TheVariants.{Strict, Permissive}
-use Rattle.pe_core.specs.declared.options.ParseOptions.{ParseOptions}
-use Rattle.pe_core.specs.declared.section_table.SectionTable.{SectionTable}
-use Rattle.pe_resource.specs.declared.directory.ImageResourceDirectory.{ImageResourceDirectory}
-use Rattle.pe_resource.specs.Contents.{map_of}
 use Rattle.pe_resource.specs.Directories.{directory_at}
-use Rattle.pe_resource.specs.ResourceEntries.{entries}
 use Rattle.pe_resource.specs.Resources.{ResourceView, no_resources, first_entries_in, FirstDirectoryView, first_directory, IsOfFirst, AreResources, IsResource}
 
 taken : (body : List ℕ) (d : ImageResourceDirectory) (z : Option (List ℕ)) → first_entries_in Strict body d ≡ Ok z → first_entries_in Permissive body d ≡ Ok z

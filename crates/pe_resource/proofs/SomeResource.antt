@@ -1,18 +1,10 @@
 -- A walk has an answer, and so has what stands on it.
 use Rattle.std.proofs.Common.{◌≡◌, ℕ, suc, ◌<◌, Bool, List, length, Option, Some, None, Result, Ok, Err, IsSome, ⊎_elim, refl, ap, ◌∙◌, rules, arith}
-use Rattle.pe_core.proofs.Pigeonhole.{StopsAfter, follows_from_decides, goes_or_stops, last_state, never_stops}
-use Rattle.pe_core.specs.Chains.{after}
-use Rattle.pe_core.specs.Refusals.{Refusal, Short, ResourceCycle, ◌>>=◌}
-use Rattle.pe_core.specs.declared.byte_range.ByteRange.{ByteRange}
-use Rattle.pe_core.specs.declared.data_directories.DataDirectory.{DataDirectory}
-use Rattle.pe_core.specs.declared.options.ParseOptions.{ParseOptions}
-use Rattle.pe_core.specs.declared.section_table.SectionTable.{SectionTable}
-use Rattle.pe_resource.specs.declared.entry.ResourceEntry.{ResourceEntry}
-use Rattle.pe_resource.specs.Contents.{IsLeaf, range_in, IsContentRange, content_of, IsContent, version_of_content, IsVersion}
-use Rattle.pe_resource.specs.ResourceEntries.{directory_offset, with_id, is_directory, data_offset}
-use Rattle.pe_resource.specs.ResourceWalk.{step, decided, passed_on, passes, Walks}
+use Rattle.pe_resource.proofs.Cited.{StopsAfter, follows_from_decides, goes_or_stops, last_state, never_stops, after, Refusal, Short}
+use Rattle.pe_resource.proofs.Cited.{ResourceCycle, ◌>>=◌, ByteRange, DataDirectory, ParseOptions, SectionTable, ResourceEntry, IsLeaf}
+use Rattle.pe_resource.proofs.Cited.{range_in, IsContentRange, content_of, IsContent, version_of_content, IsVersion, directory_offset}
+use Rattle.pe_resource.proofs.Cited.{with_id, is_directory, data_offset, step, decided, passed_on, passes, Walks, VersionView}
 use Rattle.pe_resource.specs.Resources.{ResourceView, FirstDirectoryView, IsOfFirst, resources_with, AreResources, IsResource, IsResourceRange}
-use Rattle.pe_resource.specs.VersionFields.{VersionView}
 use Rattle.pe_resource.proofs.Walks.{only_short, offset_decides, offsets_below}
 
 -- ---- walks

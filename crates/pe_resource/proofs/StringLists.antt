@@ -1,11 +1,8 @@
 -- The strings of a byte string, one by one.
 use Rattle.std.proofs.Common.{◌≡◌, ◌≢◌, ℕ, zero, suc, ◌<◌, ◌≤◌, ◌==◌, true, List, [], ◌∷◌, length, drop, length-drop, Option, Some, None, Result, Ok, Err, if◌then◌else◌, refl, ap, sym, ◌∙◌, subst, arith}
-use Rattle.std.proofs.lemmas.Bool.Decides.{nat_tests}
-use Rattle.pe_core.specs.Bytes.{holds}
-use Rattle.pe_core.specs.Refusals.{Refusal, kind_of}
-use Rattle.pe_core.specs.declared.error.Error.{Error}
-use Rattle.pe_resource.specs.declared.string.ResourceString.{ResourceString}
-use Rattle.pe_resource.specs.VersionStrings.{VersionString, string_view, version_string_at, whole_string_at, string_and_next, value_bytes, value_offset, ReturnsString, then_more, strings_in, strings, all_read}
+use Rattle.pe_resource.proofs.Cited.{nat_tests, holds, Refusal, kind_of, Error, ResourceString, VersionString, string_view}
+use Rattle.pe_resource.proofs.Cited.{version_string_at, whole_string_at, string_and_next, value_bytes, value_offset, ReturnsString}
+use Rattle.pe_resource.proofs.Cited.{then_more, strings_in, strings, all_read}
 
 abbrev Pair : Type 0
 Pair = Option VersionString × ℕ

@@ -1,9 +1,6 @@
 -- The units of two bytes.
 use Rattle.std.proofs.Common.{◌≡◌, ℕ, zero, suc, ◌+◌, ◌*◌, ◌/◌, ◌<◌, ◌≤◌, ◌≢◌, List, [], ◌∷◌, ◌++◌, length, add-zero, append_assoc, drop, get_or, refl, ap, sym, ◌∙◌, arith}
-use Rattle.std.proofs.lemmas.Bool.Decides.{nat_tests}
-use Rattle.std.proofs.lemmas.List.{same_lists, get_or_default, append-nil}
-use Rattle.pe_core.specs.Bytes.{le}
-use Rattle.pe_resource.specs.VersionStrings.{units, before_zero}
+use Rattle.pe_resource.proofs.Cited.{nat_tests, same_lists, get_or_default, append-nil, le, units, before_zero}
 
 pub units_count : (b : List ℕ) → length (units b) ≡ length b / 2
 units_count [] = refl

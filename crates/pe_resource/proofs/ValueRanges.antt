@@ -1,17 +1,10 @@
 -- Where values lie among strings.
 use Rattle.std.proofs.Common.{◌≡◌, ℕ, zero, suc, ◌+◌, ◌-◌, ◌<◌, ◌≤◌, Bool, true, List, [], ◌∷◌, length, drop, length-drop, All, IfSome, map, ext_get_or, get_or, Option, Some, None, Result, Ok, Err, if◌then◌else◌, refl, ap, sym, ◌∙◌, subst, arith, rules}
-use Rattle.std.proofs.lemmas.Bool.Decides.{nat_tests}
-use Rattle.std.proofs.lemmas.List.{places, same_lists, get_or-map, length-map, drop-drop}
-use Rattle.std.specs.Option.{option_map, option_or}
-use Rattle.pe_core.proofs.Ranges.{length_range, range_in_range}
-use Rattle.pe_core.specs.Bytes.{range, holds}
-use Rattle.pe_core.specs.Offsets.{bytes_in, IsWithin}
-use Rattle.pe_core.specs.Refusals.{Refusal, ◌>>=◌}
-use Rattle.pe_core.specs.declared.byte_range.ByteRange.{ByteRange}
-use Rattle.pe_core.specs.declared.error.Error.{Error}
-use Rattle.pe_resource.specs.declared.string.ResourceString.{ResourceString}
-use Rattle.pe_resource.specs.Contents.{IsThere, inner, content_of}
-use Rattle.pe_resource.specs.VersionStrings.{VersionString, string_view, version_string_at, string_and_next, key_length, value_bytes, value_offset, value_start, value_range, lengthened, up_to_four, ReturnsString, then_more, strings, read, all_read, value_of, value_ranges, is_name, text}
+use Rattle.pe_resource.proofs.Cited.{nat_tests, places, same_lists, get_or-map, length-map, drop-drop, option_map, option_or, length_range}
+use Rattle.pe_resource.proofs.Cited.{range_in_range, range, holds, bytes_in, IsWithin, Refusal, ◌>>=◌, ByteRange, Error, ResourceString}
+use Rattle.pe_resource.proofs.Cited.{IsThere, inner, content_of, VersionString, string_view, version_string_at, string_and_next, key_length}
+use Rattle.pe_resource.proofs.Cited.{value_bytes, value_offset, value_start, value_range, lengthened, up_to_four, ReturnsString, then_more}
+use Rattle.pe_resource.proofs.Cited.{strings, read, all_read, value_of, value_ranges, is_name, text}
 use Rattle.pe_resource.proofs.StringLists.{string_read, further, strings_start, strings_empty, strings_more, strings_none, reads_all}
 use Rattle.pe_resource.proofs.Names.{whole_key}
 

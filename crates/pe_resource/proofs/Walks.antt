@@ -1,14 +1,8 @@
 -- Where a walk has come to, and why an offset that comes again never ends.
 use Rattle.std.proofs.Common.{◌≡◌, ℕ, suc, ◌+◌, ◌<◌, Bool, true, false, List, length, Option, Some, None, Result, Ok, Err, ◌↔◌, refl, ap, sym, ◌∙◌, subst, arith, add-one, is_some}
-use Rattle.std.proofs.lemmas.Bool.{cases_lt}
-use Rattle.std.proofs.lemmas.Bool.Decides.{nat_tests}
-use Rattle.pe_core.proofs.Steps.{other_value}
-use Rattle.pe_core.specs.Chains.{after, KeyDecides, HasKeysBelow}
-use Rattle.pe_core.specs.Refusals.{Refusal, Memory, Short, ResourceCycle}
-use Rattle.pe_core.proofs.Pigeonhole.{follows_from_decides, never_stops, repeats, stops_at, after_more}
-use Rattle.pe_resource.specs.declared.entry.ResourceEntry.{ResourceEntry}
-use Rattle.pe_resource.specs.ResourceEntries.{directory_offset}
-use Rattle.pe_resource.specs.ResourceWalk.{first_at, step, decided, passed_on, passes, IsEndlessWalk, Decides, Walks}
+use Rattle.pe_resource.proofs.Cited.{cases_lt, nat_tests, other_value, after, KeyDecides, HasKeysBelow, Refusal, Memory, Short}
+use Rattle.pe_resource.proofs.Cited.{ResourceCycle, follows_from_decides, never_stops, repeats, stops_at, after_more, ResourceEntry}
+use Rattle.pe_resource.proofs.Cited.{directory_offset, first_at, step, decided, passed_on, passes, IsEndlessWalk, Decides, Walks}
 
 pub offset_decides : (b : List ℕ) (p : ResourceEntry → Bool) → KeyDecides (passes b p) directory_offset
 offset_decides b p x y same = ap (λ (q : ℕ). passed_on p (first_at b q)) same

@@ -229,6 +229,7 @@ fn put_codes<'a>(codes: CodeBytes<'a>, entries: &mut [Code]) -> PutCodes<'a>
 
 /// Lists codes in bytes, as `hand_out_list` does.
 #[inline(always)]
+#[tactic(auto, using(calls_base::proofs::FilledLists::refused_if, crate::proofs::CodeBytes::same_stream, crate::proofs::PutCodes::lists_put))]
 fn list_in_bytes(codes: &mut CodeBytes<'_>, entries: &mut [Code], written: &mut u64) -> u32
     ensures { HandsOutList (Numbered result_number StepsBytes) result
         codes.old codes.new entries.old entries.new written.old written.new }

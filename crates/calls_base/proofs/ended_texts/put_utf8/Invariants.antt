@@ -1,6 +1,5 @@
 use Rattle.std.proofs.Common.{◌≡◌, ◌+◌, ◌<◌, length}
-use Rattle.pe_core.specs.Bytes.{splice}
-use Rattle.calls_base.specs.EndedTexts.{ended, utf16_text}
+use Rattle.calls_base.proofs.Cited.{splice, ended, utf16_text}
 use Rattle.calls_base.proofs.ended_texts.put_utf8.Given as goal
 
 -- with the rest of the text after what is written, the room is as it is to be

@@ -1,6 +1,5 @@
 use Rattle.std.proofs.Common.{◌≡◌, ◌≤◌, All, length, take}
-use Rattle.pe_core.specs.Imports.{entry_size}
-use Rattle.calls_base.specs.TextRuns.{IsEntryRun}
+use Rattle.calls_base.proofs.Cited.{entry_size, IsEntryRun}
 use Rattle.calls_base.proofs.entry_lists.keep_lists.Given as goal
 
 -- those that are kept are lists of the bytes

@@ -1,7 +1,5 @@
 use Rattle.std.proofs.Common.{◌+◌, ◌<◌, subst, sym, arith}
-use Rattle.pe_core.specs.Bytes.{le}
-use Rattle.pe_core.specs.Imports.{entry_size}
-use Rattle.pe_core.proofs.EntryLists.{NoneIsZero, none_yet}
+use Rattle.calls_base.proofs.Cited.{le, entry_size, NoneIsZero, none_yet}
 use Rattle.calls_base.proofs.entry_lists.zero_entry.Goals as goal
 
 pub loop-start-preserved : goal.loop-start-preserved

@@ -1,6 +1,5 @@
 use Rattle.std.proofs.Common.{length, ◌-◌}
-use Rattle.pe_core.specs.Imports.{entry_size}
-use Rattle.pe_core.proofs.EntryLists.{NoneIsZero}
+use Rattle.calls_base.proofs.Cited.{entry_size, NoneIsZero}
 use Rattle.calls_base.proofs.entry_lists.zero_entry.Given as goal
 
 -- no entry so far is zero

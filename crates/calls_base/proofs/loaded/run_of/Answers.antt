@@ -1,7 +1,5 @@
 use Rattle.std.proofs.Common.{refl, rules, subst}
-use Rattle.pe_core.specs.SectionMap.{section_map}
-use Rattle.pe_core.specs.declared.options.ParseOptions.{ParseOptions}
-use Rattle.pe_directories.specs.LoadedImages.{IsRun}
+use Rattle.calls_base.proofs.Cited.{section_map, ParseOptions, IsRun}
 use Rattle.calls_base.proofs.ViewRuns.{by_index, without_index}
 use Rattle.calls_base.proofs.loaded.run_of.Goals as goal
 

@@ -1,7 +1,5 @@
 use Rattle.std.proofs.Common.{◌≡◌, ◌+◌, ◌-◌, ◌∙◌, true, false, sym, subst, ap, rules, arith}
-use Rattle.pe_lookup.specs.SectionIndexes.{start_by}
-use Rattle.pe_lookup.proofs.Halving.{grows, halved}
-use Rattle.pe_lookup.proofs.IndexSearches.{start_inside}
+use Rattle.calls_base.proofs.Cited.{start_by, grows, halved, start_inside}
 use Rattle.calls_base.proofs.ViewRuns.{alike_down, alike_first, alike_last, alike_up}
 use Rattle.calls_base.proofs.loaded.started_until.Goals as goal
 

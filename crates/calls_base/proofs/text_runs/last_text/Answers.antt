@@ -1,7 +1,5 @@
 use Rattle.std.proofs.Common.{ℕ, ◌<◌, List, length, drop, subst, sym, arith}
-use Rattle.std.specs.Str.{IsUtf8, IsValidUpTo, valid_up_to}
-use Rattle.std.proofs.lemmas.Str.{is_utf8-from_IsUtf8}
-use Rattle.std.proofs.lemmas.List.{length-drop, take_rest}
+use Rattle.calls_base.proofs.Cited.{IsUtf8, IsValidUpTo, valid_up_to, is_utf8-from_IsUtf8, length-drop, take_rest}
 use Rattle.pe_core.proofs.TextEnds.{more_refused}
 use Rattle.calls_base.proofs.text_runs.last_text.Goals as goal
 

@@ -1,12 +1,8 @@
 use Rattle.std.proofs.Common.{◌≡◌, ℕ, ◌≤◌, ◌<◌, List, length, take, drop, Some, subst, sym, ◌∙◌, ap, arith, ◌+◌, ◌-◌, Option, None, refl}
-use Rattle.std.specs.Prelude.{IsTrue, position, ◌==◌, slice_range}
-use Rattle.std.specs.Str.{is_utf8}
-use Rattle.std.proofs.lemmas.Bool.Decides.{nat_tests}
-use Rattle.std.proofs.lemmas.List.{length-take-le, drop-drop, drop-take, length-drop}
-use Rattle.std.proofs.lemmas.List.Quantifiers.{position-Some}
+use Rattle.calls_base.proofs.Cited.{IsTrue, position, ◌==◌, slice_range, is_utf8, nat_tests, length-take-le, drop-drop, drop-take}
+use Rattle.calls_base.proofs.Cited.{length-drop, position-Some, IsTextRun, run_text}
 use Rattle.pe_core.proofs.TextRuns.{zero_follows, no_zero_follows}
 use Rattle.pe_core.specs.TextRuns.{IsLastText, last_of}
-use Rattle.calls_base.specs.TextRuns.{IsTextRun, run_text}
 use Rattle.calls_base.proofs.text_runs.run_from.Goals as goal
 
 -- A run of the offsets that have one zero after them.

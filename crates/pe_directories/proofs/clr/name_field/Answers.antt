@@ -1,7 +1,6 @@
 use Rattle.std.proofs.Common.{refl, ◌≡◌, ℕ, ◌-◌, min, List, length, take, drop, arith}
 use Rattle.std.proofs.lemmas.Bool.{cases_lt}
-use Rattle.std.proofs.lemmas.List.{take_all, take_rest}
-use Rattle.pe_directories.specs.Clr.{name_field}
+use Rattle.pe_directories.proofs.Cited.{take_all, take_rest, name_field}
 use Rattle.pe_directories.proofs.clr.name_field.Goals as goal
 
 shorter : (b r : List ℕ) (k n m : ℕ) → r ≡ take (length b - k) (drop k b) → m ≡ min (length r) n → take m r ≡ take n (drop k b)

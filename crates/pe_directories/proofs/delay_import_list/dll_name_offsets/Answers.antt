@@ -1,6 +1,5 @@
 use Rattle.std.proofs.Common.{rules, arith}
-use Rattle.std.proofs.lemmas.Grind.{common_steps}
-use Rattle.std.proofs.lemmas.Slice.{pushed}
+use Rattle.pe_directories.proofs.Cited.{common_steps, pushed}
 use Rattle.pe_directories.proofs.DelayLists.{entry_taken, no_entry, one_offset, all_offsets}
 use Rattle.pe_directories.proofs.delay_import_list.dll_name_offsets.Goals as goal
 

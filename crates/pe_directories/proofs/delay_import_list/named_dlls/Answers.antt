@@ -1,8 +1,5 @@
 use Rattle.std.proofs.Common.{◌∷◌, [], Ok, Err, arith, refl, rules}
-use Rattle.std.proofs.lemmas.Grind.{common_steps}
-use Rattle.std.proofs.lemmas.Slice.{pushed}
-use Rattle.pe_directories.specs.DelayImports.{dll_of, dll_view}
-use Rattle.pe_directories.specs.DelayImportSteps.{dll_name_offset, entry_items}
+use Rattle.pe_directories.proofs.Cited.{common_steps, pushed, dll_of, dll_view, dll_name_offset, entry_items}
 use Rattle.pe_directories.proofs.DelayLists.{entry_taken, no_entry, taken_is, name_is, names_after, names_over}
 use Rattle.pe_directories.proofs.WalkLists.{all_read, one_pushed, refused_item, refused_read}
 use Rattle.pe_directories.proofs.delay_import_list.named_dlls.Goals as goal

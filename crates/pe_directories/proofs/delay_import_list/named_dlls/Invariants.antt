@@ -1,6 +1,5 @@
 use Rattle.std.proofs.Common.{map}
-use Rattle.pe_directories.specs.DelayImports.{dll_of, dll_view}
-use Rattle.pe_directories.specs.DelayImportSteps.{dll_name_offset, entry_items}
+use Rattle.pe_directories.proofs.Cited.{dll_of, dll_view, dll_name_offset, entry_items}
 use Rattle.pe_directories.proofs.DelayLists.{NamesLeft}
 use Rattle.pe_directories.proofs.WalkLists.{ReadSoFar}
 use Rattle.pe_directories.proofs.delay_import_list.named_dlls.Given as goal

@@ -1,11 +1,6 @@
 use Rattle.std.proofs.Common.{◌≡◌, ℕ, ap, refl, Option, Result}
-use Rattle.pe_directories.specs.DelayImports.{first_delay_import, delay_imports_left}
-use Rattle.pe_directories.specs.VaTables.{first_va, vas_left, vas_are_64}
-use Rattle.pe_directories.specs.Walks.{Steps}
-use Rattle.pe_directories.specs.declared.delay_import.DelayImport.{DelayImport}
-use Rattle.pe_directories.specs.declared.delay_import.DelayImports.{DelayImports}
-use Rattle.pe_directories.specs.declared.va_table.VaTable.{VaTable}
-use Rattle.pe_directories.specs.declared.error.DirectoryError.{DirectoryError}
+use Rattle.pe_directories.proofs.Cited.{first_delay_import, delay_imports_left, first_va, vas_left, vas_are_64, Steps, DelayImport}
+use Rattle.pe_directories.proofs.Cited.{DelayImports, VaTable, DirectoryError}
 use Rattle.pe_directories.proofs.WholeWalks.{whole}
 use Rattle.pe_directories.proofs.WalkLists.{only_items}
 use Rattle.pe_directories.proofs.OtherWalks.{va_shrinks, delay_import_shrinks}

@@ -1,9 +1,5 @@
 use Rattle.std.proofs.Common.{length, refl, Option, Result}
-use Rattle.pe_directories.specs.DelayImports.{first_delay_import, delay_imports_left}
-use Rattle.pe_directories.specs.Walks.{Steps}
-use Rattle.pe_directories.specs.declared.delay_import.DelayImport.{DelayImport}
-use Rattle.pe_directories.specs.declared.delay_import.DelayImports.{DelayImports}
-use Rattle.pe_directories.specs.declared.error.DirectoryError.{DirectoryError}
+use Rattle.pe_directories.proofs.Cited.{first_delay_import, delay_imports_left, Steps, DelayImport, DelayImports, DirectoryError}
 use Rattle.pe_directories.proofs.WholeWalks.{whole, one_list}
 use Rattle.pe_directories.proofs.OtherWalks.{delay_import_shrinks}
 use Rattle.pe_directories.proofs.laws.delay_import_walks_return_the_list.Goals as goal

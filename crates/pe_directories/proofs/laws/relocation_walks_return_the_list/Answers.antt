@@ -1,11 +1,6 @@
 use Rattle.std.proofs.Common.{◌≡◌, length, refl, ap, Option, Result}
-use Rattle.pe_directories.specs.BaseRelocations.{block_view, first_block, blocks_left, first_relocation, relocations_left, page_of}
-use Rattle.pe_directories.specs.Walks.{Steps}
-use Rattle.pe_directories.specs.declared.base_relocation.RelocationBlock.{RelocationBlock}
-use Rattle.pe_directories.specs.declared.base_relocation.RelocationBlocks.{RelocationBlocks}
-use Rattle.pe_directories.specs.declared.base_relocation.BaseRelocation.{BaseRelocation}
-use Rattle.pe_directories.specs.declared.base_relocation.BaseRelocations.{BaseRelocations}
-use Rattle.pe_directories.specs.declared.error.DirectoryError.{DirectoryError}
+use Rattle.pe_directories.proofs.Cited.{block_view, first_block, blocks_left, first_relocation, relocations_left, page_of, Steps}
+use Rattle.pe_directories.proofs.Cited.{RelocationBlock, RelocationBlocks, BaseRelocation, BaseRelocations, DirectoryError}
 use Rattle.pe_directories.proofs.WholeWalks.{whole, one_list}
 use Rattle.pe_directories.proofs.RelocationWalks.{block_shrinks, relocation_shrinks}
 use Rattle.pe_directories.proofs.laws.relocation_walks_return_the_list.Goals as goal

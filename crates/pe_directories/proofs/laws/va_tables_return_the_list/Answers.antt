@@ -1,8 +1,5 @@
 use Rattle.std.proofs.Common.{◌≡◌, ℕ, length, ap, Option, Result}
-use Rattle.pe_directories.specs.VaTables.{first_va, vas_left, vas_are_64}
-use Rattle.pe_directories.specs.Walks.{Steps}
-use Rattle.pe_directories.specs.declared.va_table.VaTable.{VaTable}
-use Rattle.pe_directories.specs.declared.error.DirectoryError.{DirectoryError}
+use Rattle.pe_directories.proofs.Cited.{first_va, vas_left, vas_are_64, Steps, VaTable, DirectoryError}
 use Rattle.pe_directories.proofs.WholeWalks.{whole, one_list}
 use Rattle.pe_directories.proofs.OtherWalks.{va_shrinks}
 use Rattle.pe_directories.proofs.laws.va_tables_return_the_list.Goals as goal

@@ -1,6 +1,5 @@
 use Rattle.std.proofs.Common.{Ok, Err, rules, arith}
-use Rattle.pe_directories.specs.BaseRelocations.{block_view}
-use Rattle.pe_directories.specs.Relocated.{word_of}
+use Rattle.pe_directories.proofs.Cited.{block_view, word_of}
 use Rattle.pe_directories.proofs.WordsLeft.{all_tested, item_is, item_refused, no_relocation, one_more_read, read_refused, relocation_taken, started_block}
 use Rattle.pe_directories.proofs.relocating.check_block.Goals as goal
 

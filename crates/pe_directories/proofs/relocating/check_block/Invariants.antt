@@ -1,6 +1,5 @@
 use Rattle.std.proofs.Common.{◌≡◌}
-use Rattle.pe_directories.specs.BaseRelocations.{block_view, page_of}
-use Rattle.pe_directories.specs.Relocated.{word_of}
+use Rattle.pe_directories.proofs.Cited.{block_view, page_of, word_of}
 use Rattle.pe_directories.proofs.WordsLeft.{SomeRead, items_of_block, relocations_of}
 use Rattle.pe_directories.proofs.relocating.check_block.Given as goal
 

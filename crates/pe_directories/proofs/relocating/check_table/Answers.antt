@@ -1,6 +1,5 @@
 use Rattle.std.proofs.Common.{Ok, Err, rules, arith}
-use Rattle.pe_directories.specs.BaseRelocations.{block_view}
-use Rattle.pe_directories.specs.Relocated.{block_words}
+use Rattle.pe_directories.proofs.Cited.{block_view, block_words}
 use Rattle.pe_directories.proofs.WordsLeft.{all_tested, block_taken, item_is, item_refused, no_block, one_more_tested, read_refused, started_table}
 use Rattle.pe_directories.proofs.relocating.check_table.Goals as goal
 

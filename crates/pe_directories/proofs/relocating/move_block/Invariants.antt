@@ -1,6 +1,5 @@
 use Rattle.std.proofs.Common.{◌≡◌, length}
-use Rattle.pe_directories.specs.BaseRelocations.{block_view, page_of}
-use Rattle.pe_directories.specs.Relocated.{all_moved, word_of}
+use Rattle.pe_directories.proofs.Cited.{block_view, page_of, all_moved, word_of}
 use Rattle.pe_directories.proofs.WordsLeft.{MovesLeft, items_of_block, relocations_of}
 use Rattle.pe_directories.proofs.relocating.move_block.Given as goal
 

@@ -1,6 +1,5 @@
 use Rattle.std.proofs.Common.{Ok, Err, length, refl, rules, sym}
-use Rattle.pe_directories.specs.BaseRelocations.{block_view}
-use Rattle.pe_directories.specs.Relocated.{block_words, blocks_moved}
+use Rattle.pe_directories.proofs.Cited.{block_view, block_words, blocks_moved}
 use Rattle.pe_directories.proofs.WordsLeft.{all_are_moved, block_moved, block_taken, item_is, no_block, not_item, started_blocks}
 use Rattle.pe_directories.proofs.relocating.move_table.Goals as goal
 

@@ -1,12 +1,8 @@
 use Rattle.std.proofs.Common.{◌≡◌, ◌≢◌, ℕ, zero, suc, ◌+◌, ◌^◌, ◌<◌, ◌≤◌, Bool, true, false, List, [], ◌∷◌, ◌++◌, length, Option, Some, None, Result, Ok, Err, ◌⊎◌, inl, inr, ⊎_elim, refl, sym, subst, arith, length-append}
 use Rattle.pe_core.specs.Bytes.{AreBytes}
-use Rattle.pe_core.specs.Refusals.{Refusal, Memory, FunctionCycle, outcome, ◌>>=◌}
-use Rattle.pe_unwind.specs.declared.function_table.RuntimeFunction.{RuntimeFunction}
-use Rattle.pe_unwind.specs.Links.{Table}
-use Rattle.pe_unwind.specs.UnwindRecord.{UnwindInfoView, unwind_record, unwind_tests}
-use Rattle.pe_unwind.specs.Unwinding.{Unwinds, record_at_address, record_at_offset}
+use Rattle.pe_plan.proofs.Cited.{Refusal, Memory, FunctionCycle, outcome, ◌>>=◌, RuntimeFunction, Table, UnwindInfoView, unwind_record}
+use Rattle.pe_plan.proofs.Cited.{unwind_tests, Unwinds, record_at_address, record_at_offset, IsChain, PlansFrom}
 use Rattle.pe_unwind.proofs.ChainedAddresses.{IsSmall, small_record}
-use Rattle.pe_plan.specs.Plans.{IsChain, PlansFrom}
 use Rattle.pe_plan.proofs.Chains.{one_more}
 use Rattle.pe_plan.proofs.Rings.{AreBelow, below_more, many_go_on}
 use Rattle.pe_plan.proofs.RecordLaw.{RecordLaw}

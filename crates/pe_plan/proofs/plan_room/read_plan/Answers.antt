@@ -1,8 +1,5 @@
 use Rattle.std.proofs.Common.{Some, arith, subst, map, take}
-use Rattle.pe_unwind.specs.Links.{links_with}
-use Rattle.std.proofs.lemmas.List.{length-set}
-use Rattle.pe_unwind.specs.UnwindRecord.{unwind_view}
-use Rattle.pe_plan.specs.Plans.{IsChain}
+use Rattle.pe_plan.proofs.Cited.{links_with, length-set, unwind_view, IsChain}
 use Rattle.pe_plan.proofs.ShortPlans.{chain_more}
 use Rattle.pe_plan.proofs.plan_room.read_plan.Goals as goal
 

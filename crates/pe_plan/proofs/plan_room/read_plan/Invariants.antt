@@ -1,7 +1,5 @@
 use Rattle.std.proofs.Common.{◌≡◌, length, map, take, Some}
-use Rattle.pe_unwind.specs.Links.{links_with}
-use Rattle.pe_unwind.specs.UnwindRecord.{unwind_view}
-use Rattle.pe_plan.specs.Plans.{IsChain}
+use Rattle.pe_plan.proofs.Cited.{links_with, unwind_view, IsChain}
 use Rattle.pe_plan.proofs.plan_room.read_plan.Given as goal
 
 -- the records so far are the first of the chain, which goes on with the next function

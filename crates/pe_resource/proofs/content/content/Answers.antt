@@ -1,8 +1,5 @@
 use Rattle.std.proofs.Common.{Some, ap, sym, ◌∙◌}
-use Rattle.std.proofs.lemmas.Result.{err_from_is_err_and}
-use Rattle.pe_core.specs.Refusals.{kind_of}
-use Rattle.pe_resource.specs.Contents.{content_of}
-use Rattle.pe_resource.specs.ResourceEntries.{entries_left}
+use Rattle.pe_resource.proofs.Cited.{err_from_is_err_and, kind_of, content_of, entries_left}
 use Rattle.pe_resource.proofs.Contents.{content_given, content_refusal}
 use Rattle.pe_resource.proofs.content.content.Goals as goal
 

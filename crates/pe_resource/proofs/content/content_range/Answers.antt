@@ -1,6 +1,5 @@
 use Rattle.std.proofs.Common.{Ok, sym}
-use Rattle.std.proofs.lemmas.Result.{err_from_is_err_and}
-use Rattle.pe_core.specs.Refusals.{kind_of}
+use Rattle.pe_resource.proofs.Cited.{err_from_is_err_and, kind_of}
 use Rattle.pe_resource.proofs.Contents.{range_in_given, range_in_refusal}
 use Rattle.pe_resource.proofs.content.content_range.Goals as goal
 

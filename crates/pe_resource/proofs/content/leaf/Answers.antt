@@ -1,7 +1,5 @@
 use Rattle.std.proofs.Common.{rules, sym, ◌∙◌}
-use Rattle.std.proofs.lemmas.Result.{err_from_is_err_and}
-use Rattle.pe_core.specs.Refusals.{kind_of}
-use Rattle.pe_resource.specs.ResourceEntries.{entries, is_directory}
+use Rattle.pe_resource.proofs.Cited.{err_from_is_err_and, kind_of, entries, is_directory}
 use Rattle.pe_resource.proofs.Contents.{leaf_given, leaf_refusal}
 use Rattle.pe_resource.proofs.content.leaf.Goals as goal
 

@@ -1,6 +1,5 @@
 use Rattle.std.proofs.Common.{sym, ◌∙◌, arith}
-use Rattle.std.proofs.lemmas.Result.{err_from_is_err_and}
-use Rattle.pe_core.specs.Refusals.{kind_of}
+use Rattle.pe_resource.proofs.Cited.{err_from_is_err_and, kind_of}
 use Rattle.pe_resource.proofs.Walks.{walks_refusal, no_memory_answer, decides_last, decides_failing, comes_again, keeps_saved, moves_saved, too_long, passes_next}
 use Rattle.pe_resource.proofs.entry.walk.Goals as goal
 use Rattle.pe_resource.proofs.entry.walk.Goals.{then-steps-power, else-steps-power}

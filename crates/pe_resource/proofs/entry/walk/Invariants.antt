@@ -1,6 +1,5 @@
 use Rattle.std.proofs.Common.{Bool}
-use Rattle.pe_resource.specs.declared.entry.ResourceEntry.{ResourceEntry}
-use Rattle.pe_resource.specs.ResourceWalk.{IsSteady}
+use Rattle.pe_resource.proofs.Cited.{ResourceEntry, IsSteady}
 use Rattle.pe_resource.proofs.Walks.{WalkedTo}
 use Rattle.pe_resource.proofs.entry.walk.Given as goal
 

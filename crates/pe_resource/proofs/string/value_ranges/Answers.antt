@@ -1,7 +1,5 @@
 use Rattle.std.proofs.Common.{ℕ, List, map, ap, sym, ◌∙◌, arith, length, Result, Ok, Err}
-use Rattle.pe_core.specs.Refusals.{Refusal, ◌>>=◌}
-use Rattle.pe_resource.specs.VersionStrings.{strings, read, all_read, value_range, value_ranges}
-use Rattle.std.proofs.lemmas.List.{get_or-replicate, length-replicate}
+use Rattle.pe_resource.proofs.Cited.{Refusal, ◌>>=◌, strings, read, all_read, value_range, value_ranges, get_or-replicate, length-replicate}
 use Rattle.pe_resource.proofs.StringLists.{reads_on, reads_refusal}
 use Rattle.pe_resource.proofs.ValueRanges.{value_ends, key_measured, start_kept, one_further, found}
 use Rattle.pe_resource.proofs.string.value_ranges.Goals as goal

@@ -1,7 +1,5 @@
 use Rattle.std.proofs.Common.{◌≡◌, ℕ, ◌<◌, ◌*◌, ◌^◌, Some, ap, sym, ◌∙◌, arith}
-use Rattle.pe_core.specs.Bytes.{le}
-use Rattle.pe_core.specs.HexDigits.{digit_of}
-use Rattle.pe_core.proofs.HexDigits.{power_more, power_small, digit_small}
+use Rattle.pe_resource.proofs.Cited.{le, digit_of, power_more, power_small, digit_small}
 use Rattle.pe_resource.proofs.Digits.{digit_more}
 use Rattle.pe_resource.proofs.version_block.number_of.Goals as goal
 

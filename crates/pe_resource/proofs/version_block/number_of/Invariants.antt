@@ -1,6 +1,5 @@
 use Rattle.std.proofs.Common.{◌≡◌, ◌^◌, ◌<◌, drop}
-use Rattle.pe_core.specs.HexDigits.{number_after}
-use Rattle.pe_resource.specs.VersionStrings.{units}
+use Rattle.pe_resource.proofs.Cited.{number_after, units}
 use Rattle.pe_resource.proofs.version_block.number_of.Given as goal
 
 -- the digits that are left make the whole number after the one that the others made

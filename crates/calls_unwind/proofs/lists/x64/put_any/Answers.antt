@@ -1,11 +1,8 @@
 use Rattle.std.proofs.Common.{◌≡◌, inl, Option, Ok, Err, Some, length-set, refl, sym, subst, ap, ◌∙◌, arith}
-use Rattle.std.proofs.lemmas.Bool.{eqb-true}
+use Rattle.calls_unwind.proofs.Cited.{eqb-true, PutsCodes, ReturnsAny, PutCodes, Code}
 use Rattle.calls_unwind.proofs.CodeBytes.{any_step, frequent_step}
-use Rattle.calls_unwind.proofs.PutCodes.{none_left, one_more}
+use Rattle.calls_unwind.proofs.PutCodes.{one_more}
 use Rattle.calls_unwind.proofs.lists.x64.put_any.Goals as goal
-use Rattle.calls_unwind.specs.CodeBytes.{PutsCodes, ReturnsAny}
-use Rattle.calls_unwind.specs.declared.lists.x64.PutCodes.{PutCodes}
-use Rattle.calls_unwind.specs.declared.unwinding.Code.{Code}
 
 pub loop-count-preserved-in-Some : goal.loop-count-preserved-in-Some
 loop-count-preserved-in-Some c =
@@ -33,9 +30,7 @@ loop-count-preserved c =
     }
 
 pub returns-in-None : goal.returns-in-None
-returns-in-None c = λ s before h.
-    subst (λ (p : PutCodes). PutsCodes s before c.loop-count.entries p) (sym c.put_of-in-None.ensures)
-    (c.loop-count.invariant.has s before h, inl (none_left c.loop-count.codes c.any_code-given.result.1 (subst (λ y. ReturnsAny c.loop-count.codes y c.any_code-given.result.1) (c.in-Ok.is ∙ ap (λ (o : Option Code). Ok o) c.in-None.is) c.any_code-given.ensures.code)))
+returns-in-None c = grind arith
 
 pub returns-in-Err : goal.returns-in-Err
 returns-in-Err c = λ s before h.

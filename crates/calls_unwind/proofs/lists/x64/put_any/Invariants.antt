@@ -1,8 +1,6 @@
 use Rattle.std.proofs.Common.{◌≡◌, ◌-◌, ◌≤◌, List, length}
 use Rattle.calls_unwind.proofs.lists.x64.put_any.Given as goal
-use Rattle.calls_unwind.specs.CodeBytes.{HasCodes}
-use Rattle.calls_unwind.specs.declared.lists.x64.CodeBytes.{CodeBytes}
-use Rattle.calls_unwind.specs.declared.unwinding.Code.{Code}
+use Rattle.calls_unwind.proofs.Cited.{HasCodes, CodeBytes, Code}
 
 -- what was written are the codes so far, after those that stood there
 abbrev pub invariant-loop-count : goal.invariant-loop-count

@@ -1,10 +1,7 @@
 use Rattle.std.proofs.Common.{length-set, refl, ◌∙◌, arith}
 use Rattle.calls_unwind.proofs.CodeBytes.{frequent_step}
-use Rattle.calls_unwind.proofs.PutCodes.{none_yet, one_more}
+use Rattle.calls_unwind.proofs.PutCodes.{one_more}
 use Rattle.calls_unwind.proofs.lists.x64.put_frequent.Goals as goal
-
-pub loop-count-init : goal.loop-count-init
-loop-count-init c = record { has = none_yet c.args.codes.now c.args.entries.now; same = refl; inside = omega arith }
 
 pub loop-count-preserved : goal.loop-count-preserved
 loop-count-preserved c =
@@ -15,9 +12,3 @@ loop-count-preserved c =
       same = size ∙ c.loop-count.invariant.same;
       inside = omega (arith, size, c.loop-count-test.true);
     }
-
-pub returns-in-None : goal.returns-in-None
-returns-in-None c = c.loop-count.invariant.has
-
-pub returns : goal.returns
-returns c = c.loop-count.invariant.has

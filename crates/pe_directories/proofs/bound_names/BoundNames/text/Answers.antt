@@ -1,10 +1,5 @@
 use Rattle.std.proofs.Common.{ℕ, ◌<◌, ◌≤◌, List, length, ap, ◌∙◌, arith, ◌≡◌, ◌^◌, min, get_or, Option, None, sym, rules}
-use Rattle.std.specs.Borrow.{Bor}
-use Rattle.std.specs.Option.{option_map}
-use Rattle.std.proofs.lemmas.List.{drop_all, get_or-map, length-map}
-use Rattle.pe_core.specs.Rows.{each}
-use Rattle.pe_core.specs.Text.{text_at}
-use Rattle.pe_core.proofs.EntryItems.{get_or-each, length-each}
+use Rattle.pe_directories.proofs.Cited.{Bor, option_map, drop_all, get_or-map, length-map, each, text_at, get_or-each, length-each}
 use Rattle.pe_core.proofs.Texts.{zero_missing}
 use Rattle.pe_directories.specs.BoundImports.{AreTexts}
 use Rattle.pe_directories.proofs.bound_names.BoundNames.text.Goals as goal

@@ -1,8 +1,5 @@
 use Rattle.std.proofs.Common.{◌∷◌, [], Ok, Err, arith, refl, rules}
-use Rattle.std.proofs.lemmas.Grind.{common_steps}
-use Rattle.std.proofs.lemmas.Slice.{pushed}
-use Rattle.pe_directories.specs.DelayImports.{imported_by, function_view}
-use Rattle.pe_directories.specs.DelayImportSteps.{function_name_offset, table_items}
+use Rattle.pe_directories.proofs.Cited.{common_steps, pushed, imported_by, function_view, function_name_offset, table_items}
 use Rattle.pe_directories.proofs.DelayLists.{number_taken, no_number, taken_is, name_is, names_after, names_over}
 use Rattle.pe_directories.proofs.WalkLists.{all_read, one_pushed, refused_item, refused_read}
 use Rattle.pe_directories.proofs.delay_import.DelayImport.named_functions.Goals as goal

@@ -1,6 +1,5 @@
 use Rattle.std.proofs.Common.{map}
-use Rattle.pe_directories.specs.DelayImports.{function_view, imported_by}
-use Rattle.pe_directories.specs.DelayImportSteps.{function_name_offset, table_items}
+use Rattle.pe_directories.proofs.Cited.{function_view, imported_by, function_name_offset, table_items}
 use Rattle.pe_directories.proofs.DelayLists.{NamesLeft}
 use Rattle.pe_directories.proofs.WalkLists.{ReadSoFar}
 use Rattle.pe_directories.proofs.delay_import.DelayImport.named_functions.Given as goal

@@ -1,7 +1,5 @@
 use Rattle.std.proofs.Common.{◌≡◌}
-use Rattle.std.specs.List.{fold}
-use Rattle.pe_core.specs.Rows.{each}
-use Rattle.pe_directories.specs.RichHeader.{plus, entry_share, stub_sum, rich_view}
+use Rattle.pe_directories.proofs.Cited.{fold, each, plus, entry_share, stub_sum, rich_view}
 use Rattle.pe_directories.proofs.rich_header.RichHeader.checksum.Given as goal
 
 -- the sum has the shares of all entries before the one with this index

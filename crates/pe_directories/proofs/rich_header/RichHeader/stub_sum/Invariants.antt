@@ -1,7 +1,5 @@
 use Rattle.std.proofs.Common.{◌≡◌, ◌%◌, length}
-use Rattle.std.specs.List.{fold}
-use Rattle.pe_core.specs.Rows.{each}
-use Rattle.pe_directories.specs.RichHeader.{plus, stub_share}
+use Rattle.pe_directories.proofs.Cited.{fold, each, plus, stub_share}
 use Rattle.pe_directories.proofs.rich_header.RichHeader.stub_sum.Given as goal
 
 -- the sum has the shares of all bytes before this offset

@@ -1,7 +1,5 @@
 use Rattle.std.proofs.Common.{arith, sym, ◌∙◌}
-use Rattle.std.proofs.lemmas.Result.{err_from_is_err_and}
-use Rattle.pe_core.specs.Refusals.{kind_of}
-use Rattle.pe_unwind.specs.UnwindRecord.{unwind_view}
+use Rattle.pe_plan.proofs.Cited.{err_from_is_err_and, kind_of, unwind_view}
 use Rattle.pe_plan.proofs.Marks.{comes_again, comes_to_refusal}
 use Rattle.pe_plan.proofs.RecordLaw.{RecordLaw}
 use Rattle.pe_plan.proofs.Walks.{IsChained, count_starts, counted_to_root, keeps_saved, moves_saved, too_many}

@@ -1,8 +1,6 @@
 use Rattle.std.proofs.Common.{◌≡◌, IfSome, arith, refl, ap, ◌∷◌, [], length, length-append}
-use Rattle.std.proofs.lemmas.List.{length-map}
+use Rattle.pe_plan.proofs.Cited.{length-map, kind_of, unwind_view}
 use Rattle.std.proofs.lemmas.Slice.{pushed}
-use Rattle.pe_core.specs.Refusals.{kind_of}
-use Rattle.pe_unwind.specs.UnwindRecord.{unwind_view}
 use Rattle.pe_plan.proofs.RecordLaw.{RecordLaw}
 use Rattle.pe_plan.proofs.Walks.{not_refused, takes_next, goes_on, goes_nowhere}
 use Rattle.pe_plan.proofs.chain.Records.take.Goals.{in-Some, in_default}

@@ -1,6 +1,5 @@
 use Rattle.std.proofs.Common.{◌≡◌, map, length}
-use Rattle.pe_unwind.specs.Links.{links_by}
-use Rattle.pe_unwind.specs.UnwindRecord.{unwind_view}
+use Rattle.pe_plan.proofs.Cited.{links_by, unwind_view}
 use Rattle.pe_plan.proofs.Walks.{TakenTo}
 use Rattle.pe_plan.proofs.chain.Records.take.Given as goal
 

@@ -1,7 +1,6 @@
 use Rattle.std.proofs.Common.{◌↔◌, Result, Err}
-use Rattle.std.proofs.lemmas.Result.{err_from_is_err_and}
+use Rattle.pe_plan.proofs.Cited.{err_from_is_err_and, Refusal}
 use Rattle.pe_core.proofs.Steps.{other_value}
-use Rattle.pe_core.specs.Refusals.{Refusal}
 use Rattle.pe_plan.proofs.plan.UnwindPlan.of_found.Goals as goal
 
 same_refusal : {X Y P : Type 0} (k l : Refusal) → Path (Result X Refusal) (Err k) (Err l) ↔ P → Path (Result Y Refusal) (Err k) (Err l) ↔ P

@@ -1,5 +1,4 @@
-use Rattle.std.proofs.lemmas.Result.{err_from_is_err_and}
-use Rattle.pe_core.specs.Refusals.{kind_of}
+use Rattle.pe_plan.proofs.Cited.{err_from_is_err_and, kind_of}
 use Rattle.pe_plan.proofs.Endings.{plan_cycle}
 use Rattle.pe_plan.proofs.RecordLaw.{RecordLaw}
 use Rattle.pe_plan.proofs.Walks.{counted, taken}

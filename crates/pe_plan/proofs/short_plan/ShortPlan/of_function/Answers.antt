@@ -1,9 +1,5 @@
 use Rattle.std.proofs.Common.{◌≡◌, Some, arith, subst, map, take}
-use Rattle.pe_core.specs.Refusals.{kind_of}
-use Rattle.pe_unwind.specs.Links.{links_with}
-use Rattle.std.proofs.lemmas.List.{length-set}
-use Rattle.pe_unwind.specs.UnwindRecord.{unwind_view}
-use Rattle.pe_plan.specs.Plans.{IsChain}
+use Rattle.pe_plan.proofs.Cited.{kind_of, links_with, length-set, unwind_view, IsChain}
 use Rattle.pe_plan.proofs.ShortPlans.{chain_first, chain_more, refused_at_once, root_at_last}
 use Rattle.pe_plan.proofs.short_plan.ShortPlan.of_function.Goals as goal
 

@@ -1,8 +1,5 @@
 use Rattle.std.proofs.Common.{◌≡◌, length, map, take, Some}
-use Rattle.pe_unwind.specs.Links.{links_with}
-use Rattle.pe_unwind.specs.UnwindRecord.{unwind_view}
-use Rattle.pe_plan.specs.Plans.{IsChain}
-use Rattle.pe_plan.specs.ShortPlans.{most_records}
+use Rattle.pe_plan.proofs.Cited.{links_with, unwind_view, IsChain, most_records}
 use Rattle.pe_plan.proofs.short_plan.ShortPlan.of_function.Given as goal
 
 -- the records so far are the first of the chain, which goes on with the next function

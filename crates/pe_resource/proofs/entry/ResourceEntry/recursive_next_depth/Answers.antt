@@ -1,5 +1,4 @@
-use Rattle.std.proofs.lemmas.Result.{err_from_is_err_and}
-use Rattle.pe_core.specs.Refusals.{kind_of}
+use Rattle.pe_resource.proofs.Cited.{err_from_is_err_and, kind_of}
 use Rattle.pe_resource.proofs.Walks.{given_no_cycle, refused_cycle}
 use Rattle.pe_resource.proofs.entry.ResourceEntry.recursive_next_depth.Goals as goal
 

@@ -1,8 +1,5 @@
 use Rattle.std.proofs.Common.{Result, sym, ◌∙◌}
-use Rattle.std.proofs.lemmas.List.{map-id}
-use Rattle.pe_core.specs.declared.error.Error.{Error}
-use Rattle.pe_resource.specs.declared.entry.ResourceEntry.{ResourceEntry}
-use Rattle.pe_resource.specs.ResourceEntries.{resource_items_left}
+use Rattle.pe_resource.proofs.Cited.{map-id, Error, ResourceEntry, resource_items_left}
 use Rattle.pe_resource.proofs.Entries.{list_from_yields}
 use Rattle.pe_resource.proofs.laws.resources.entry_iterators_give_the_entries.Goals as goal
 

@@ -1,7 +1,6 @@
 use Rattle.std.proofs.Common.{Result}
-use Rattle.pe_resource.specs.declared.leaves.ResourceLeaf.{ResourceLeaf}
+use Rattle.pe_resource.proofs.Cited.{ResourceLeaf, tree_answer, leaves_left}
 use Rattle.pe_resource.specs.declared.tree_error.ResourceTreeError.{ResourceTreeError}
-use Rattle.pe_resource.specs.Leaves.{tree_answer, leaves_left}
 use Rattle.pe_resource.proofs.Entries.{list_from_yields}
 use Rattle.pe_resource.proofs.laws.resources.leaf_walks_give_the_leaves.Goals as goal
 

@@ -1,12 +1,9 @@
 use Rattle.std.proofs.Common.{◌≡◌, ◌≢◌, ℕ, zero, suc, ◌<◌, ◌≤◌, ◌↔◌, length, length-drop, arith, ◌⊎◌, inl, inr, List, [], ◌∷◌, map, drop, Option, Some, None, Result, Ok, Err, refl, ap, sym, ◌∙◌, subst}
-use Rattle.std.specs.Iterator.{Yields}
-use Rattle.pe_core.proofs.Steps.{one_ok, one_err, not_both}
-use Rattle.pe_core.specs.Refusals.{Refusal}
-use Rattle.pe_core.specs.declared.error.Error.{Error}
+use Rattle.pe_resource.proofs.Cited.{Yields, one_ok, one_err, not_both, Refusal, Error, ResourceString, VersionString, version_string_at}
+use Rattle.pe_resource.proofs.Cited.{Strings, ReturnsString, item_of, then_more, strings}
 use Rattle.pe_core.proofs.Map.{same_some}
-use Rattle.pe_resource.specs.declared.string.ResourceString.{ResourceString}
 use Rattle.pe_resource.specs.declared.string.ResourceStringIterator.{ResourceStringIterator}
-use Rattle.pe_resource.specs.VersionStrings.{VersionString, version_string_at, Strings, ReturnsString, rest_of, item_of, then_more, strings}
+use Rattle.pe_resource.specs.VersionStrings.{rest_of}
 use Rattle.pe_resource.proofs.StringLists.{further, strings_start, strings_empty}
 use Rattle.pe_resource.proofs.laws.resources.strings_have_one_reading.Goals as goal
 

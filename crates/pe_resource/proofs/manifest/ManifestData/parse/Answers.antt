@@ -1,5 +1,4 @@
-use Rattle.pe_resource.specs.ResourceEntries.{entries_left}
-use Rattle.pe_core.proofs.NoMemory.{memory_never}
+use Rattle.pe_resource.proofs.Cited.{entries_left, memory_never}
 use Rattle.pe_resource.proofs.NoMemory.{content_lacks}
 use Rattle.pe_resource.proofs.manifest.ManifestData.parse.Goals as goal
 

@@ -1,7 +1,5 @@
 use Rattle.std.proofs.Common.{Ok, Err}
-use Rattle.std.proofs.lemmas.Result.{err_from_is_err_and}
-use Rattle.pe_core.specs.Refusals.{kind_of}
-use Rattle.pe_resource.specs.ResourceEntries.{entries_left}
+use Rattle.pe_resource.proofs.Cited.{err_from_is_err_and, kind_of, entries_left}
 use Rattle.pe_resource.proofs.Contents.{resources_without_version, resources_read}
 use Rattle.pe_resource.proofs.resource.ResourceData.of_first.Goals as goal
 

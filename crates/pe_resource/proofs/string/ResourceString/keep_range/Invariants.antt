@@ -1,6 +1,5 @@
 use Rattle.std.proofs.Common.{◌≡◌, ◌<◌, ◌≤◌, ℕ, length, get_or, map, [], None, Some, if◌then◌else◌}
-use Rattle.std.specs.Option.{option_or}
-use Rattle.pe_resource.specs.VersionStrings.{is_name, text}
+use Rattle.pe_resource.proofs.Cited.{option_or, is_name, text}
 use Rattle.pe_resource.proofs.string.ResourceString.keep_range.Given as goal
 
 abbrev pub invariant-loop-i : goal.invariant-loop-i

@@ -1,6 +1,4 @@
-use Rattle.std.proofs.lemmas.Result.{err_from_is_err_and}
-use Rattle.pe_core.specs.Refusals.{kind_of}
-use Rattle.pe_resource.specs.ResourceEntries.{entries_left}
+use Rattle.pe_resource.proofs.Cited.{err_from_is_err_and, kind_of, entries_left}
 use Rattle.pe_resource.proofs.Contents.{given_answer, version_given, version_refusal}
 use Rattle.pe_resource.proofs.version.VersionInfo.of_entries.Goals as goal
 
