@@ -23,6 +23,15 @@ const LISTS = {
   threadNames: ['THREAD_NAMES', 'thread_name'],
 };
 
+/** The items of a list, up to what is refused. */
+function* upToError(items) {
+  try {
+    yield* items;
+  } catch (error) {
+    if (!(error instanceof PeError)) throw error;
+  }
+}
+
 /** A minidump. A stream that is damaged costs that stream alone. */
 export class Dump extends File {
   // What was said of each kind of stream, each of which reads the directory: its range, null, or why it is refused.
@@ -119,16 +128,13 @@ export class Dump extends File {
     return this.utf16(this.call('pe_c_dump_text', { rva }), { isWhole: true });
   }
 
-  /** The stacks that the records of threads name, as far as the file has them: at offset 0, which full dumps say of all stacks, it has
-   * its header. A damaged list of threads has none. */
-  *#stacks() {
-    try {
-      for (const { stack: { start_of_memory_range: start, memory } } of this.list('threads')) {
-        const length = BigInt(Math.max(0, Math.min(memory.size, this.length - memory.rva)));
-        if (memory.rva !== 0) yield { start, offset: BigInt(memory.rva), length };
-      }
-    } catch (error) {
-      if (!(error instanceof PeError)) throw error;
+  /** The memory of both lists, and the stacks that the records of threads name, as far as the file has them: at offset 0, which full
+   * dumps say of all stacks, it has its header. */
+  *#memory() {
+    for (const items of [this.list('pieces'), this.fullPieces()]) for (const it of upToError(items)) yield it.memory;
+    for (const { stack: { start_of_memory_range: start, memory } } of upToError(this.list('threads'))) {
+      const length = BigInt(Math.max(0, Math.min(memory.size, this.length - memory.rva)));
+      if (memory.rva !== 0) yield { start, offset: BigInt(memory.rva), length };
     }
   }
 
@@ -136,7 +142,7 @@ export class Dump extends File {
    * first piece that has it. */
   runs() {
     const pieces = [], longest = new Map();
-    for (const it of [...[...this.list('pieces'), ...this.fullPieces()].map((piece) => piece.memory), ...this.#stacks()]) {
+    for (const it of this.#memory()) {
       // No byte of a piece counts where one before it starts there too and has no fewer bytes: threads may share one stack.
       if (longest.get(it.start) >= it.length) continue;
       longest.set(it.start, it.length);

@@ -1,12 +1,14 @@
 // An image: its headers and sections, all calls of pe.h over it, and its lists as iterators.
 import { File, bytesOf, firstOfType, listOf, memoryOf, ownOf, placed, placeFor, viewOf, wholeEntries, written } from './calls.mjs';
 import { constants } from './layouts.mjs';
-import { fieldOf, only, optionsOf, whole, width } from './memory.mjs';
+import { PeError, fieldOf, only, optionsOf, whole, width } from './memory.mjs';
 import { delayImportsOf, digestOf, exportsOf, importsOf, manifestOf, signaturesOf, versionsOf } from './parts.mjs';
 import { recordsOf, resourcesOf } from './resources.mjs';
 import { symbolsOf } from './symbols.mjs';
 
 const ARM64 = 0xAA64;
+// Bytes of an entry of the table of bound imports, and how many DLLs may have a forwarder that is refused: for each, texts are read again.
+const BOUND_ENTRY = 8, MOST_REFUSED = 64;
 // What names an address, by its number in pe_c_function_name; and the tables of which names are read.
 const SOURCES = [null, 'symbol', 'export'], NAME_TABLES = ['functions', 'symbols', 'strings', 'exports'];
 
@@ -173,16 +175,28 @@ export class Image extends File {
     if (table) yield* this.indexed('pe_c_list_export_addresses', { table }, 1);
   }
 
-  /** The bound imports, each with its forwarders. */
+  /** The bound imports, each with its forwarders, up to one that is refused, which is their `error`. */
   *boundImports() {
     const table = this.call('pe_c_bound_imports');
     if (!table) return;
-    const options = { runs: 1, given: { table } }, each = this.many('pe_c_list_bound_forwarders', copied(table), options);
+    const options = { runs: 1, given: { table } }, call = 'pe_c_list_bound_forwarders', end = table.offset + table.length;
+    const from = (offset) => this.many(call, { offset, length: end - offset }, options);
+    let each = from(table.offset), refused = 0;
     for (const found of this.many('pe_c_list_bound_imports', copied(table), options)) {
-      // The entries of all, of which the first is the DLL's own: lists of the forwarders of each would read a text that they
-      // share each.
-      each.next();
-      yield { ...found, forwarders: Array.from({ length: Number(found.forwarders.length) / 8 }, () => each.next().value) };
+      const { offset, length } = found.forwarders, forwarders = Object.assign([], { error: null });
+      try {
+        // The entries of all, of which the first is the DLL's own: lists of the forwarders of each would read a text that they
+        // share each.
+        each.next();
+        while (forwarders.length < Number(length) / BOUND_ENTRY) forwarders.push(each.next().value);
+      } catch (error) {
+        if (!(error instanceof PeError)) throw error;
+        // The entries from the next DLL on are listed anew.
+        if (++refused > MOST_REFUSED) throw this.refused(call, 'PE_C_ROOM');
+        forwarders.error = error;
+        each = from(offset + length);
+      }
+      yield { ...found, forwarders };
     }
   }
 

@@ -167,6 +167,7 @@ class Symbols extends File {
 export class Pdb extends File {
   #starts;
   #sections = null;
+  #headerBytes = null;
   #modules = null;
   #names = null;
   #publics;
@@ -240,7 +241,8 @@ export class Pdb extends File {
 
   /** The section headers by which symbols count. */
   #headers() {
-    return this.isMoved ? this.stream(this.info.original_section_headers) : this.#streamOrNone(this.info.section_headers);
+    const { original_section_headers: original, section_headers: own } = this.info;
+    return this.#headerBytes ??= this.isMoved ? this.stream(original) : this.#streamOrNone(own);
   }
 
   /** The modules: see index.d.ts. */

@@ -1094,6 +1094,22 @@ test('the stack of a thread is memory that the lists lack', () => {
   assert.deepEqual(damaged.runs(), [piece]);
 });
 
+test('a damaged list of memory costs its own pieces', () => {
+  const bytes = Uint8Array.from(readFileSync(join(folder, 'x64.dmp'))), view = new DataView(bytes.buffer);
+  const [piece] = library.openDump(bytes).runs();
+  const stream = (kind) => Array.from({ length: view.getUint32(8, true) }, (_, i) => view.getUint32(12, true) + 12 * i)
+    .find((it) => view.getUint32(it, true) === kind);
+  view.setUint32(view.getUint32(stream(5) + 8, true), 0xFFFF, true);
+  const damaged = library.openDump(bytes);
+  assert.throws(() => [...damaged.list('pieces')], (it) => it instanceof PeError);
+  assert.deepEqual([[...damaged.fullPieces()].map((it) => it.memory), damaged.runs()], [[piece], [piece]]);
+  // So does that of a full dump.
+  view.setUint32(stream(9), 0, true);
+  view.setUint32(stream(5), 9, true);
+  assert.throws(() => [...library.openDump(bytes).fullPieces()], (it) => it instanceof PeError);
+  assert.deepEqual(library.openDump(bytes).runs(), []);
+});
+
 test('what no file, no mode and no list is, is said', () => {
   const bytes = file('imports'), says = (call, text) => assert.throws(call, (it) => it instanceof TypeError && it.message.includes(text));
   says(() => library.open('a.dll'), 'as a Uint8Array or a Buffer, and not a string: a file is read first, as by readFileSync');
@@ -1189,6 +1205,11 @@ test('a PDB names functions and lines', () => {
   assert.deepEqual(pdb.modules().map((it) => [it.name, it.file, it.stream]),
     [['a.obj', 'a.obj', 11], ['b.obj', 'b.obj', 12], ['* Linker *', '', 13]]);
   assert.deepEqual(pdb.publics().map((it) => [it.name, it.rva, it.isFunction]), [['entry', 0x1000, true], ['helper', 0x1050, true]]);
+  // The section headers are read once.
+  const counted = pdbWith(), read = [];
+  counted.stream = (index) => read.push(index) && pdb.stream(index);
+  assert.deepEqual([own, own].map((it) => counted.procedures(it).length), [2, 2]);
+  assert.equal(read.filter((it) => it === pdb.info.section_headers).length, 1);
   assert.deepEqual(pdb.procedures(own).map((it) => [it.name, it.rva, it.size, it.kind]),
     [['helper', 0x1050, 45, 0x1110], ['local', 0x1080, 12, 0x110F]]);
   assert.deepEqual(pdb.lines(own).map((it) => [it.rva, it.file, it.line]), [[0x1050, 'b.c', 4], [0x1058, 'b.c', 5],
@@ -1591,9 +1612,44 @@ test('lists return what steps do', () => {
     assert.deepEqual([...relocated.relocations(it)], found);
   }
   const table = bound.call('pe_c_bound_imports'), each = of(bound, 'pe_c_next_bound_import', table, { table });
-  assert.deepEqual([...bound.boundImports()],
-    each.map((it) => ({ ...it, forwarders: of(bound, 'pe_c_next_bound_forwarder', it.forwarders, { table }) })));
+  const forwarders = (it) => Object.assign(of(bound, 'pe_c_next_bound_forwarder', it.forwarders, { table }), { error: null });
+  assert.deepEqual([...bound.boundImports()], each.map((it) => ({ ...it, forwarders: forwarders(it) })));
   assert.ok(each.some((it) => it.forwarders.length > 0n));
+});
+
+test('a bound forwarder that is refused ends the forwarders of its DLL alone', () => {
+  const whole = opened('bound_imports'), rows = [...whole.boundImports()], { offset } = whole.call('pe_c_bound_imports');
+  const counts = rows.map((it) => it.forwarders.length);
+  const said = ({ time_date_stamp: stamp, forwarders }) => [stamp, forwarders.length, forwarders.error?.constant];
+  let refusals = 0, at = Number(offset);
+  for (let i = 0; i < rows.length; i++) {
+    for (let j = 0; j < counts[i]; j++, refusals++) {
+      // The offset of a name that is past the 64 bytes of the directory.
+      const bytes = Uint8Array.from(file('bound_imports'));
+      new DataView(bytes.buffer).setUint16(at + 8 * (j + 1) + 4, 0x50, true);
+      assert.deepEqual([...library.open(bytes).boundImports()].map(said), rows.map((it, row) => (
+        row === i ? [it.time_date_stamp, j, 'PE_C_DIRECTORY_BOUND_IMPORT_NAME'] : said(it))));
+    }
+    at += 8 * (counts[i] + 1);
+  }
+  assert.deepEqual([refusals, rows.length], [1, 2]);
+});
+
+test('of many DLLs with a bound forwarder that is refused the first are rows', () => {
+  const bytes = file('bound_imports'), name = 66 * 16 + 8, large = new Uint8Array(bytes.length + 0x1000), view = new DataView(large.buffer);
+  large.set(bytes);
+  const [{ pointer_to_raw_data: start }] = library.open(bytes).sections;
+  // The section and its directory are larger.
+  [[0x150, 0x1000], [0x158, 0x1000], [0x124, name + 8]].forEach(([at, value]) => view.setUint32(at, value, true));
+  large.fill(0, start);
+  for (let at = start; at < start + name - 8; at += 16) {
+    [1, 0, name, 1, 2, 0, 0xFFFF].forEach((it, i) => view.setUint16(at + 2 * i, it, true));
+  }
+  large.set(new TextEncoder().encode('a.dll'), start + name);
+  const rows = [], error = refused(() => {
+    for (const it of library.open(large).boundImports()) rows.push(it.forwarders.error.constant);
+  });
+  assert.deepEqual([rows.length, new Set(rows), error.constant], [64, new Set(['PE_C_DIRECTORY_BOUND_IMPORT_NAME']), 'PE_C_ROOM']);
 });
 
 test('tables return what their entries do', () => {

@@ -75,12 +75,12 @@ function framesOf(process, dump, thread, most, modules, said) {
   return { frames, end: ENDS[walk.end] };
 }
 
-/** Says what is damaged and costs frames, but refuses nothing: function tables, and memory that a truncated file lacks. */
+/** Says what is damaged and costs frames, but refuses nothing: function tables, lists of memory, and memory that a truncated file lacks. */
 function sayDamage(said, dump, process, modules) {
   (process?.damaged ?? []).forEach((error, i) => {
     if (error) said.push(`function table of the module at 0x${modules[i].base_va.toString(16)}: ${error.message}; its whole entries serve`);
   });
-  const pieces = attempt([], '', () => [...dump.list('pieces'), ...dump.fullPieces()]) ?? [];
+  const pieces = [() => dump.list('pieces'), () => dump.fullPieces()].flatMap((list) => attempt(said, 'memory', () => [...list()]) ?? []);
   const lost = pieces.reduce((sum, it) => sum + it.lost, 0n);
   if (lost > 0n) said.push(`${lost} bytes more of memory are lost: the file is truncated`);
 }

@@ -90,14 +90,31 @@ class Lines(Room):
         one = run("scan", "-j", "1", self.room)
         self.assertEqual(run("scan", "-j", "3", self.room), one)
         self.assertEqual(run("-r", self.room), one)
-        self.assertIn("no images, and skipped; by their start 2 DOS or truncated MZ files", one[1])
-        self.assertNotIn("symbolic links", one[1])
+        self.assertIn("no images, and skipped; by their start 2 DOS or truncated MZ files; "
+                      "one is a link to a folder, which is not followed\n", one[1])
         # A folder that is named may be a link, as one below it is not.
         link = os.path.join(inner, "named")
         os.symlink(inner, link)
         self.assertEqual([json.loads(it)["file"] for it in run("scan", "-j", "1", link)[0].decode().splitlines()],
                          [os.path.join(link, "a\tb.dll")])
-        self.assertIn("the link leads to no file", run("scan", "-v", "-j", "1", self.room)[1])
+        said = run("scan", "-v", "-j", "1", self.room)[1]
+        self.assertIn("the link leads to no file", said)
+        self.assertIn(f"{os.path.join(inner, 'loop')}: skipped, it is a link to a folder, which is not followed\n", said)
+        self.assertIn("; 2 are links to folders, which are not followed\n", said)
+        self.assertNotIn("no image is found", said)
+
+    def test_no_image_is_found(self):
+        empty, linked = os.path.join(self.room, "empty"), os.path.join(self.room, "linked")
+        os.mkdir(empty)
+        os.mkdir(linked)
+        os.symlink(self.room, os.path.join(linked, "a"))
+        none = "pe_c: no image is found\n"
+        for words in (("scan", "-j", "1"), ("scan", "-j", "2"), ("-r",)):
+            self.assertEqual(run(*words, empty), (b"", none, 0))
+            self.assertEqual(run(*words, linked), (
+                b"", f"pe_c: 1 file is no image, and skipped; one is a link to a folder, which is not followed\n{none}", 0))
+        # A file that can't be read is no folder without images.
+        self.assertNotIn("no image is found", run("scan", "-j", "1", os.path.join(self.room, "absent"))[1])
 
     def test_more_tables_of_version_strings_than_are_read(self):
         for count, is_limited in ((4096, False), (4097, True)):

@@ -234,7 +234,20 @@ class Signatures(unittest.TestCase):
     def test_no_signature(self):
         self.assertEqual((pe_c.Image(bytes_of("debug.bin")).signatures, pe_c.Image(bytes_of("debug.bin")).signatures.error), ((), None))
         part = pe_c.Image(bytes_of("certificates.bin")).signatures
-        self.assertIsNotNone(part.error)
+        self.assertEqual((part, part.refused, part.error.kind), ((), ((0, part.error),), Kind.SIGNATURE_TRUNCATED))
+
+    def test_which_signature_is_refused(self):
+        data = pe_c.Image(bytes_of("imports.bin"))
+        entries = [pe_c.Image(signed()).certificates[0].body, b"\x30\x80", b"no X.509", b"\x31\x00"]
+        kinds = (2, 2, 1, 2)
+        table = b"".join(struct.pack("<IHH", len(it) + 8, 0x200, kind) + bytes(it) + bytes(-len(it) % 8)
+                         for it, kind in zip(entries, kinds))
+        image = pe_c.Image(data.attach(table))
+        self.assertEqual([it.type for it in image.certificates], list(kinds))
+        part = image.signatures
+        self.assertEqual((len(part), part.refused[0][1], [index for index, _ in part.refused]), (1, part.error, [1, 3]))
+        self.assertTrue(all(isinstance(it, pe_c.Error) for _, it in part.refused))
+        self.assertEqual((part[0].signers.refused, image.certificates.refused), ((), ()))
 
 
 def tell(signatures, depth=0):

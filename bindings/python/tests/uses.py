@@ -42,6 +42,7 @@ def lists(image: pe_c.Image) -> int:
     for part in parts:
         error: pe_c.Error | None = part.error
         limited: bool = part.is_limited
+        refused: tuple[tuple[int, pe_c.Error], ...] = part.refused
         columns: tuple[str, ...] = part.columns
         assert len(part.to_dict()) == len(part) and (columns or not part) and callable(part.frame)
         if error is None and not limited:

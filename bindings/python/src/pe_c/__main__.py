@@ -11,7 +11,7 @@ import time
 import typing
 
 from ._image import Mode
-from .scan import CUT, DONE, FILE_ERROR, How, scan
+from .scan import CUT, DONE, FILE_ERROR, LINK, How, scan
 
 
 def arguments(words: list[str]) -> argparse.Namespace:
@@ -85,14 +85,15 @@ def written(asked: argparse.Namespace, complaints: Complaints) -> int:
     mode = (Mode.STRICT if asked.strict else Mode.PERMISSIVE) | (Mode.MAPPED if asked.mapped else Mode.STRICT)
     is_watched = sys.stderr is not None and sys.stderr.isatty()
     bar = Bar(sys.stderr, asked.recursive and is_watched and not sys.stdout.isatty())
-    worst, skipped, cut, out = DONE, 0, 0, sys.stdout.buffer
+    worst, skipped, cut, links, is_any, out = DONE, 0, 0, 0, False, sys.stdout.buffer
     found = scan(asked.paths, recursive=asked.recursive, jobs=asked.jobs, how=How(int(mode), not asked.no_hashes))
     try:
         for said in found:
             bar.add(said.size)
             out.write(said.line.encode())
             worst, skipped = max(worst, said.status), skipped + said.is_skipped
-            cut += said.complaint.endswith(CUT)
+            cut, links = cut + said.complaint.endswith(CUT), links + said.complaint.endswith(LINK)
+            is_any = is_any or not said.is_skipped
             if said.complaint and (not said.is_skipped or asked.verbose):
                 bar.end()
                 complaints.add(said.complaint)
@@ -102,7 +103,11 @@ def written(asked: argparse.Namespace, complaints: Complaints) -> int:
         bar.end()
     if skipped:
         more = f"; by their start {cut} DOS or truncated MZ file{'' if cut == 1 else 's'}" if cut else ""
+        more += {0: "", 1: "; one is a link to a folder, which is not followed"}.get(
+            links, f"; {links} are links to folders, which are not followed")
         complaints.add(f"{skipped} file{' is no image' if skipped == 1 else 's are no images'}, and skipped{more}")
+    if not is_any:
+        complaints.add("no image is found")
     return worst
 
 

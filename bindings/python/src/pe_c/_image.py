@@ -193,18 +193,14 @@ class Image(Reader):
 
     @property
     def signatures(self) -> Part[_signature.Signature]:
-        """What the certificates that are signatures say. They are not verified. Of damaged ones the first is the error."""
-        from ._signature import Signature
+        """What the certificates that are signatures say. They are not verified. Of damaged ones the first is the error, and each is in
+        `refused` with its index in `certificates`."""
+        from ._signature import Signature, all_of
         def read() -> Part[_signature.Signature]:
-            found, refused = [], self.certificates.error
-            for it in self.certificates:
-                if it.type == WIN_CERT_TYPE_PKCS_SIGNED_DATA:
-                    try:
-                        found.append(Signature(it.body, path=self.path))
-                    except Error as error:
-                        refused = refused or error
-            part: Part[_signature.Signature] = Part(found)
-            part.error = refused
+            rows = self.certificates
+            signed = ((index, it) for index, it in enumerate(rows) if it.type == WIN_CERT_TYPE_PKCS_SIGNED_DATA)
+            part = all_of(signed, lambda it: Signature(it.body, path=self.path), rows.error)
+            part.error = rows.error or part.error
             return part
         return self._once("signatures", read)
 

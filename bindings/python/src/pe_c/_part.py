@@ -89,10 +89,13 @@ class Part(tuple[T, ...]):
     error        the error of what follows the last row, or None where that is the end of the list
     is_limited   whether the image has more rows than its bytes account for, as only hostile ones have; those that are here are
                  the first
+    refused      where one row that is refused does not end the list, as a signature: of each its index, counted among all, and its error,
+                 of which the first is `error`
     """
 
     error: Error | None = None
     is_limited: bool = False
+    refused: tuple[tuple[int, Error], ...] = ()
 
     def __repr__(self) -> str:
         """That of the tuple, and what ended it."""

@@ -15,6 +15,7 @@ from ._reader import BYTES, Reader
 if TYPE_CHECKING:
     import _typeshed
 
+S = TypeVar("S")
 T = TypeVar("T")
 # How many signatures stand in each other.
 MOST_NESTED = 16
@@ -252,7 +253,8 @@ class Signer(_Inside):
     def _made(self, kind: KnownOid, make: typing.Callable[[Range], T]) -> Part[T]:
         """What is made of the values of a kind, once."""
         if kind not in self._kept:
-            self._kept[kind] = _all_of(self._values(kind), make)
+            values = self._values(kind)
+            self._kept[kind] = all_of(enumerate(values), make, values.error)
         kept: Part[T] = self._kept[kind]
         return kept
 
@@ -274,16 +276,18 @@ class Signer(_Inside):
         return f"<pe_c.Signer {self.certificate.subject if self.certificate else self.serial}>"
 
 
-def _all_of(ranges: Part[Range], make: typing.Callable[[Range], T]) -> Part[T]:
-    """What is made of each; the first that is refused is the error, or what ended the ranges."""
-    found, refused = [], None
-    for at in ranges:
+def all_of(items: typing.Iterable[tuple[int, S]], make: typing.Callable[[S], T], ended: Error | None) -> Part[T]:
+    """What is made of each item, with those that are refused by their indices; the first of these is the error, or what ended the items."""
+    found, refused = [], []
+    for index, it in items:
         try:
-            found.append(make(at))
+            found.append(make(it))
         except Error as error:
-            refused = refused or error
+            # Its traceback would keep what was read of each.
+            refused.append((index, error.with_traceback(None)))
     part: Part[T] = Part(found)
-    part.error = refused or ranges.error
+    part.refused = tuple(refused)
+    part.error = refused[0][1] if refused else ended
     return part
 
 
@@ -333,9 +337,7 @@ class Signature(Reader):
     def _members(self, name: str, walk: Range, make: typing.Callable[[Range], T]) -> Part[T]:
         def read() -> Part[T]:
             elements = self._elements(walk)
-            ranges: Part[Range] = Part(it.whole for it in elements)
-            ranges.error = elements.error
-            return _all_of(ranges, make)
+            return all_of(enumerate(it.whole for it in elements), make, elements.error)
         return self._once(name, read)
 
     @property

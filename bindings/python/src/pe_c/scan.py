@@ -34,6 +34,8 @@ BATCH_BYTES, BATCH_FILES, AHEAD = 16 << 20, 64, 4
 LIMIT = 1 << 32
 # What is skipped below a folder that starts as a file of DOS, where no PE signature or not all headers are in it.
 CUT = "it is a DOS or truncated MZ file, as it seems"
+# The same of a link to a folder below a folder: there may be images below it.
+LINK = "it is a link to a folder, which is not followed"
 
 
 AnyPath = typing.Union[str, "os.PathLike[str]"]
@@ -154,7 +156,7 @@ def _said_of(file: File, how: How, reads_input: bool) -> Said:
         if file.is_below and not stat.S_ISREG(os.stat(file.path).st_mode) and not os.path.isdir(file.path):
             return skipped("it is no regular file")
         if file.is_below and os.path.islink(file.path) and os.path.isdir(file.path):
-            return skipped("it is no regular file")
+            return skipped(LINK)
         data = _content(file, reads_input)
     except ValueError as error:
         # A path that no file has: with a NUL, or with a character that names of files can't have.
