@@ -647,6 +647,40 @@ fn parsed(words: &[&str]) -> Value {
     serde_json::from_str(&run(words).0).unwrap()
 }
 
+/// There is no memory for a file of 2^40 bytes. The system gives it no room on a disk either.
+#[test]
+fn a_large_file_is_refused_by_its_start() {
+    let folder = Folder::new("large");
+    let refused = |start: &[u8], size: u64| {
+        let file = folder.file("a", start);
+        fs::OpenOptions::new().write(true).open(&file).unwrap().set_len(size).unwrap();
+        let said = parsed(&["--json", &file]);
+        assert_eq!(said["file_size"], size);
+        let words: [&[&str]; 7] = [
+            &[&file],
+            &["verify", &file],
+            &["list", &file],
+            &["pdb", &file],
+            &["stack", &file],
+            &["report", &file, "-"],
+            &["digest", &file],
+        ];
+        let runs = words.map(run);
+        assert!(runs.iter().all(|it| it.2 == 1), "{runs:?}");
+        (
+            said["error"].clone(),
+            said["file_kind"].clone(),
+            runs.map(|it| (it.0.replace(&size.to_string(), "SIZE"), it.1)),
+        )
+    };
+    for start in [&b"\x7fELF"[..], &[0; 4]] {
+        let (mut large, mut small) = (refused(start, 1 << 40), refused(start, 1 << 20));
+        // The page has digits in groups.
+        [&mut large, &mut small].into_iter().for_each(|it| it.2[5].0.clear());
+        assert_eq!(large, small);
+    }
+}
+
 /// Windows finds it by the name 1 alone, `VS_VERSION_INFO`.
 #[test]
 fn version_information_by_another_name_is_warned_of() {
