@@ -647,6 +647,28 @@ fn parsed(words: &[&str]) -> Value {
     serde_json::from_str(&run(words).0).unwrap()
 }
 
+/// Where a name is that of a language, other identifiers have it too.
+#[test]
+fn languages_of_one_name_are_told_apart() {
+    let folder = Folder::new("languages-of-one-name");
+    let shown = |id: u16| {
+        let mut bytes = with_leaves(&[(10, 1, b"x")]);
+        let at = bytes.windows(4).position(|it| it == [7, 4, 0, 0]).unwrap();
+        put(&mut bytes, at, &id.to_le_bytes());
+        let file = folder.file("a.exe", &bytes);
+        let named = parsed(&["show", &file, "resources", "--json"])["resources"][0]["language"].clone();
+        assert_eq!(named["id"], id);
+        let table = run(&["show", "--csv", &file, "resources"]).0;
+        let shown = table.lines().nth(1).unwrap().split(',').nth(2).unwrap().to_string();
+        // It is found by what is shown, and by no other identifier.
+        let found = |language: &str| run(&["extract", &file, "resource", "-", "--language", language]);
+        assert_eq!((found(&shown).0.as_str(), found("German (0x407)").2), ("x", 1));
+        shown
+    };
+    let names = ["neutral", "German (0x7)", "German", "German (Swiss)", "German (0xfc07)", "#1023"];
+    assert_eq!([0, 7, 0x407, 0x807, 0xFC07, 0x3FF].map(shown), names);
+}
+
 /// There is no memory for a file of 2^40 bytes. The system gives it no room on a disk either.
 #[test]
 fn a_large_file_is_refused_by_its_start() {
