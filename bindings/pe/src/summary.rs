@@ -297,6 +297,9 @@ fn version_of(facts: &Facts, page: &mut Page) {
         let level =
             manifest.requested_level.as_deref().map_or(String::new(), |it| format!(", asks for {}", escaped(it)));
         page.row("manifest", counted(manifest.size, "byte") + &level);
+        if manifest.count > 1 {
+            page.row("", format_args!("the first of {}", manifest.count));
+        }
     }
 }
 

@@ -647,6 +647,16 @@ fn parsed(words: &[&str]) -> Value {
     serde_json::from_str(&run(words).0).unwrap()
 }
 
+#[test]
+fn a_summary_says_that_there_are_several_manifests() {
+    let folder = Folder::new("several-manifests");
+    let said = |leaves: &[(u32, u32, &[u8])]| run(&[&folder.file("a.exe", &with_leaves(leaves))]).0;
+    let first = "\n  manifest      4 bytes\n";
+    assert!(said(&[(24, 1, b"<a/>"), (24, 2, b"<bc/>")]).contains(&format!("{first}                the first of 2\n")));
+    let one = said(&[(24, 1, b"<a/>"), (25, 2, b"<bc/>")]);
+    assert_eq!((one.contains(first), one.contains("the first of")), (true, false), "{one}");
+}
+
 /// Where a name is that of a language, other identifiers have it too.
 #[test]
 fn languages_of_one_name_are_told_apart() {
