@@ -86,6 +86,7 @@ fn headers_of(headers: &Headers, page: &mut Page) {
     if let Some(text) = checksum_of(headers) {
         page.row("checksum", text);
     }
+    headers.said_of_machine().iter().for_each(|it| page.warning(it));
 }
 
 /// The versions of the linker, and of what the image was made for, unless all are 0.

@@ -679,6 +679,27 @@ fn languages_of_one_name_are_told_apart() {
     assert_eq!([0, 7, 0x407, 0x807, 0xFC07, 0x3FF].map(shown), names);
 }
 
+/// Images for x64 and ARM64 are PE32+, and those for x86 PE32.
+#[test]
+fn a_format_of_another_machine_is_warned_of() {
+    let folder = Folder::new("format-of-machine");
+    let said = |mut bytes: Vec<u8>, machine: u16| {
+        let signature = u32::from_le_bytes(bytes[60..64].try_into().unwrap()) as usize;
+        put(&mut bytes, signature + 4, &machine.to_le_bytes());
+        let file = folder.file("a.exe", &bytes);
+        let (text, _, status) = run(&[&file]);
+        let line = text.lines().find_map(|it| it.strip_prefix("  warning       ")).map(str::to_string);
+        let page = run(&["report", &file, "-"]).0;
+        assert_eq!((line.is_some(), status), (page.contains(", but images for "), 0), "{text}");
+        line
+    };
+    let warning = |text: &str| Some(text.to_string());
+    assert_eq!(said(made::x86_dll(), 0x8664), warning("PE32, but images for x64 are PE32+"));
+    assert_eq!(said(made::x86_dll(), 0xAA64), warning("PE32, but images for ARM64 are PE32+"));
+    assert_eq!(said(made::with_exports(), 0x14C), warning("PE32+, but images for x86 are PE32"));
+    assert_eq!([said(made::x86_dll(), 0x14C), said(made::with_exports(), 0x8664)], [None, None]);
+}
+
 /// There is no memory for a file of 2^40 bytes. The system gives it no room on a disk either.
 #[test]
 fn a_large_file_is_refused_by_its_start() {
