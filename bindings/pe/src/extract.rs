@@ -93,6 +93,16 @@ fn is_called(name: ResourceName<'_>, wanted: &Option<String>, name_of: impl Fn(u
     is_named(name, wanted) || called.zip(wanted.as_ref()).is_some_and(|(it, wanted)| it.eq_ignore_ascii_case(wanted))
 }
 
+/// The same of a language, which may also be called as it is shown.
+fn is_in_language(language: ResourceName<'_>, wanted: &Option<String>) -> bool {
+    let shown = match language {
+        ResourceName::Id(id) => languages::shown(id),
+        ResourceName::Name(_) => None,
+    };
+    let is_shown = shown.zip(wanted.as_ref()).is_some_and(|(it, wanted)| it.eq_ignore_ascii_case(wanted));
+    is_shown || is_called(language, wanted, languages::name_of)
+}
+
 /// Whether an image has more resources than are looked at.
 fn has_more_leaves(image: &Image<'_>) -> bool {
     image.resource_leaves().is_ok_and(|it| it.into_iter().flatten().nth(LEAVES).is_some())
@@ -107,8 +117,7 @@ fn leaves_of<'a>(image: &Image<'a>, which: &Which, kind: Option<u16>) -> Result<
             Some(id) => leaf.resource_type == ResourceName::Id(id),
             None => is_called(leaf.resource_type, &which.kind, |id| name_of(id.into(), RESOURCE_TYPES)),
         };
-        let is_in_language = is_called(leaf.language, &which.language, languages::name_of);
-        if is_of_type && is_named(leaf.name, &which.name) && is_in_language {
+        if is_of_type && is_named(leaf.name, &which.name) && is_in_language(leaf.language, &which.language) {
             found.push(leaf);
         }
     }

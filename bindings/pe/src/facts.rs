@@ -34,6 +34,7 @@ pub mod tls;
 pub mod version;
 
 use crate::escape::Escaped;
+use crate::files::size_of_file;
 use crate::names::{name_of, MACHINES};
 use chrono::{TimeZone, Utc};
 use clap::ValueEnum;
@@ -720,7 +721,7 @@ impl<'a> Facts<'a> {
 
     /// Of a file that is no image.
     pub fn refused(path: &Path, bytes: &[u8], error: Refusal) -> Facts<'a> {
-        Facts { error: Some(error), file_kind: kind_of(bytes), ..Facts::empty(path, bytes.len()) }
+        Facts { error: Some(error), file_kind: kind_of(bytes), ..Facts::empty(path, size_of_file(path, bytes)) }
     }
 
     /// Of an image the parts that are wanted.

@@ -14,7 +14,7 @@ use rayon::prelude::*;
 use std::cell::Cell;
 use std::fmt::Display;
 use std::fs::{self, File};
-use std::io::{self, IsTerminal, Read, Write};
+use std::io::{self, IsTerminal, Read, Seek, Write};
 use std::path::{Path, PathBuf};
 use std::sync::atomic::{AtomicBool, Ordering};
 
@@ -278,6 +278,40 @@ pub fn whole(path: &Path) -> io::Result<Vec<u8>> {
     whole_of(&opened(path)?, Vec::new())
 }
 
+/// The same of a file that may be an image, a PDB or a minidump. Of a large one that starts as none of them only the start is read, by
+/// which it is refused.
+fn whole_if_known(path: &Path) -> io::Result<Vec<u8>> {
+    if path == Path::new("-") {
+        return whole(path);
+    }
+    let mut file = opened(path)?;
+    if file.metadata()?.len() <= HEADERS {
+        return whole_of(&file, Vec::new());
+    }
+    let mut start = Vec::new();
+    (&file).take(START).read_to_end(&mut start)?;
+    if !starts_as_known(&start) {
+        return Ok(start);
+    }
+    file.rewind()?;
+    whole_of(&file, Vec::new())
+}
+
+/// The size of a file that is refused, of which these bytes were read.
+pub fn size_of_file(path: &Path, bytes: &[u8]) -> usize {
+    if bytes.len() as u64 != START || path == Path::new("-") {
+        return bytes.len();
+    }
+    fs::metadata(path).ok().and_then(|it| usize::try_from(it.len()).ok()).unwrap_or(bytes.len())
+}
+
+/// Whether a file starts as one of those that a command reads: an image, a TE image, an object, a PDB or a minidump.
+fn starts_as_known(start: &[u8]) -> bool {
+    let magics: [&[u8]; 3] = [b"MZ", b"Microsoft C/C++ ", b"MDMP"];
+    magics.iter().any(|it| start.starts_with(it))
+        || kind_of(start).is_some_and(|kind| OTHERS.iter().any(|it| it.0 == kind))
+}
+
 /// A file that is no pipe or device.
 pub fn opened(path: &Path) -> io::Result<File> {
     let is_regular = fs::metadata(path)?;
@@ -308,7 +342,7 @@ fn said_of(found: &Found, report: &(impl Fn(&Path, &[u8]) -> Report + Sync)) -> 
             return Ok(Err(kind_of(&start)));
         }
     }
-    let bytes = whole(&found.path)?;
+    let bytes = whole_if_known(&found.path)?;
     let said = report(&found.path, &bytes);
     let kind = || kind_of(&bytes).or(bytes.starts_with(b"MZ").then_some(CUT));
     Ok(if said.is_image || !found.is_below { Ok(said) } else { Err(kind()) })
@@ -369,7 +403,7 @@ pub fn one(
     out: &mut dyn Write,
     report: impl FnOnce(&[u8], &mut dyn Write) -> io::Result<Status>,
 ) -> io::Result<Status> {
-    match whole(path) {
+    match whole_if_known(path) {
         Ok(bytes) => report(&bytes, out),
         Err(error) => Ok(unread(path, error)),
     }

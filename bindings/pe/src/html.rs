@@ -65,7 +65,8 @@ fn write_page(facts: &Facts, image: Option<&Image<'_>>, out: &mut dyn Write) -> 
     html.text(facts.shown_file()).markup("</p></header>");
     overview::of(facts, &mut html);
     let version = facts.version.as_ref().and_then(|it| it.said_of_name());
-    let notes: Vec<String> = facts.cut().into_iter().chain(version).collect();
+    let machine = facts.headers.as_ref().and_then(|it| it.said_of_machine());
+    let notes: Vec<String> = machine.into_iter().chain(facts.cut()).chain(version).collect();
     warnings(&facts.refusals(), &facts.limited(), &notes, &mut html);
     if let Some(image) = image {
         filter(&mut html);

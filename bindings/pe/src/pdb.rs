@@ -6,7 +6,7 @@ mod lists;
 mod text;
 
 use crate::facts::{file_name_of, Flags, Named, Origin, Refusal};
-use crate::files::Report;
+use crate::files::{self, Report};
 use crate::names::{MACHINES, PDB_FLAGS};
 use crate::page::Style;
 use crate::streams::complaint;
@@ -121,7 +121,10 @@ struct AtRva {
 pub fn report(path: &Path, bytes: &[u8], asked: Asked<'_>) -> Report {
     let told = match Pdb::parse(bytes) {
         Ok(pdb) => told_of(path, &pdb, asked),
-        Err(error) => Told { error: Some(Refusal::of_file(error, bytes, "pe pdb")), ..Told::empty(path, bytes.len()) },
+        Err(error) => Told {
+            error: Some(Refusal::of_file(error, bytes, "pe pdb")),
+            ..Told::empty(path, files::size_of_file(path, bytes))
+        },
     };
     let status = if told.is_refused() { Status::Refused } else { Status::Done };
     if asked.is_json {

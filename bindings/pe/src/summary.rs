@@ -86,6 +86,7 @@ fn headers_of(headers: &Headers, page: &mut Page) {
     if let Some(text) = checksum_of(headers) {
         page.row("checksum", text);
     }
+    headers.said_of_machine().iter().for_each(|it| page.warning(it));
 }
 
 /// The versions of the linker, and of what the image was made for, unless all are 0.
@@ -297,6 +298,9 @@ fn version_of(facts: &Facts, page: &mut Page) {
         let level =
             manifest.requested_level.as_deref().map_or(String::new(), |it| format!(", asks for {}", escaped(it)));
         page.row("manifest", counted(manifest.size, "byte") + &level);
+        if manifest.count > 1 {
+            page.row("", format_args!("the first of {}", manifest.count));
+        }
     }
 }
 

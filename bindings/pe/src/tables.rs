@@ -22,7 +22,7 @@ use crate::facts::sections::Section;
 use crate::facts::symbols::Symbol;
 use crate::facts::tls::Tls;
 use crate::facts::version::Version;
-use crate::facts::{counted, delay_imports, others, Flags, List, Name, Part, Stamp};
+use crate::facts::{counted, delay_imports, languages, others, Flags, List, Name, Part, Stamp};
 use crate::show::time_of;
 use crate::summary::{built, checksum_of, stamped};
 
@@ -555,6 +555,11 @@ fn label(label: &Label) -> String {
     label.name.as_deref().map(escaped).or(id).unwrap_or_default()
 }
 
+/// The same of a language, with its identifier where others have its name.
+fn language(of: &Label) -> String {
+    of.id.and_then(languages::shown).unwrap_or_else(|| label(of))
+}
+
 /// The version of a leaf, or why its content is missing.
 fn remark(leaf: &Leaf) -> String {
     let version = leaf.version.as_ref().map(|it| it.fixed());
@@ -564,7 +569,7 @@ fn remark(leaf: &Leaf) -> String {
 
 pub fn resources(resources: &Resources) -> Table {
     let rows = resources.entries.iter().map(|it| {
-        let labels = [&it.r#type, &it.name, &it.language].map(label);
+        let labels = [label(&it.r#type), label(&it.name), language(&it.language)];
         let numbers = [format!("{:#x}", it.rva), it.size.to_string(), it.code_page.to_string()];
         labels.into_iter().chain(numbers).chain([remark(it)]).collect()
     });
@@ -588,7 +593,7 @@ pub fn version_strings(version: &Version) -> Table {
     let tables = version.languages.entries().iter();
     let rows = tables.flat_map(|table| {
         let strings = table.strings.iter();
-        strings.map(|(name, text)| vec![label(&table.language), escaped(name), escaped(text)])
+        strings.map(|(name, text)| vec![language(&table.language), escaped(name), escaped(text)])
     });
     let is_limited = version.languages.present().is_some_and(|it| it.is_limited);
     Table::new(&[text("language"), text("name"), text("text")], rows).limited(is_limited)

@@ -647,6 +647,93 @@ fn parsed(words: &[&str]) -> Value {
     serde_json::from_str(&run(words).0).unwrap()
 }
 
+#[test]
+fn a_summary_says_that_there_are_several_manifests() {
+    let folder = Folder::new("several-manifests");
+    let said = |leaves: &[(u32, u32, &[u8])]| run(&[&folder.file("a.exe", &with_leaves(leaves))]).0;
+    let first = "\n  manifest      4 bytes\n";
+    assert!(said(&[(24, 1, b"<a/>"), (24, 2, b"<bc/>")]).contains(&format!("{first}                the first of 2\n")));
+    let one = said(&[(24, 1, b"<a/>"), (25, 2, b"<bc/>")]);
+    assert_eq!((one.contains(first), one.contains("the first of")), (true, false), "{one}");
+}
+
+/// Where a name is that of a language, other identifiers have it too.
+#[test]
+fn languages_of_one_name_are_told_apart() {
+    let folder = Folder::new("languages-of-one-name");
+    let shown = |id: u16| {
+        let mut bytes = with_leaves(&[(10, 1, b"x")]);
+        let at = bytes.windows(4).position(|it| it == [7, 4, 0, 0]).unwrap();
+        put(&mut bytes, at, &id.to_le_bytes());
+        let file = folder.file("a.exe", &bytes);
+        let named = parsed(&["show", &file, "resources", "--json"])["resources"][0]["language"].clone();
+        assert_eq!(named["id"], id);
+        let table = run(&["show", "--csv", &file, "resources"]).0;
+        let shown = table.lines().nth(1).unwrap().split(',').nth(2).unwrap().to_string();
+        // It is found by what is shown, and by no other identifier.
+        let found = |language: &str| run(&["extract", &file, "resource", "-", "--language", language]);
+        assert_eq!((found(&shown).0.as_str(), found("German (0x407)").2), ("x", 1));
+        shown
+    };
+    let names = ["neutral", "German (0x7)", "German", "German (Swiss)", "German (0xfc07)", "#1023"];
+    assert_eq!([0, 7, 0x407, 0x807, 0xFC07, 0x3FF].map(shown), names);
+}
+
+/// Images for x64 and ARM64 are PE32+, and those for x86 PE32.
+#[test]
+fn a_format_of_another_machine_is_warned_of() {
+    let folder = Folder::new("format-of-machine");
+    let said = |mut bytes: Vec<u8>, machine: u16| {
+        let signature = u32::from_le_bytes(bytes[60..64].try_into().unwrap()) as usize;
+        put(&mut bytes, signature + 4, &machine.to_le_bytes());
+        let file = folder.file("a.exe", &bytes);
+        let (text, _, status) = run(&[&file]);
+        let line = text.lines().find_map(|it| it.strip_prefix("  warning       ")).map(str::to_string);
+        let page = run(&["report", &file, "-"]).0;
+        assert_eq!((line.is_some(), status), (page.contains(", but images for "), 0), "{text}");
+        line
+    };
+    let warning = |text: &str| Some(text.to_string());
+    assert_eq!(said(made::x86_dll(), 0x8664), warning("PE32, but images for x64 are PE32+"));
+    assert_eq!(said(made::x86_dll(), 0xAA64), warning("PE32, but images for ARM64 are PE32+"));
+    assert_eq!(said(made::with_exports(), 0x14C), warning("PE32+, but images for x86 are PE32"));
+    assert_eq!([said(made::x86_dll(), 0x14C), said(made::with_exports(), 0x8664)], [None, None]);
+}
+
+/// There is no memory for a file of 2^40 bytes. The system gives it no room on a disk either.
+#[test]
+fn a_large_file_is_refused_by_its_start() {
+    let folder = Folder::new("large");
+    let refused = |start: &[u8], size: u64| {
+        let file = folder.file("a", start);
+        fs::OpenOptions::new().write(true).open(&file).unwrap().set_len(size).unwrap();
+        let said = parsed(&["--json", &file]);
+        assert_eq!(said["file_size"], size);
+        let words: [&[&str]; 7] = [
+            &[&file],
+            &["verify", &file],
+            &["list", &file],
+            &["pdb", &file],
+            &["stack", &file],
+            &["report", &file, "-"],
+            &["digest", &file],
+        ];
+        let runs = words.map(run);
+        assert!(runs.iter().all(|it| it.2 == 1), "{runs:?}");
+        (
+            said["error"].clone(),
+            said["file_kind"].clone(),
+            runs.map(|it| (it.0.replace(&size.to_string(), "SIZE"), it.1)),
+        )
+    };
+    for start in [&b"\x7fELF"[..], &[0; 4]] {
+        let (mut large, mut small) = (refused(start, 1 << 40), refused(start, 1 << 20));
+        // The page has digits in groups.
+        [&mut large, &mut small].into_iter().for_each(|it| it.2[5].0.clear());
+        assert_eq!(large, small);
+    }
+}
+
 /// Windows finds it by the name 1 alone, `VS_VERSION_INFO`.
 #[test]
 fn version_information_by_another_name_is_warned_of() {

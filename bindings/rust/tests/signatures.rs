@@ -135,6 +135,13 @@ fn refused() {
     assert_eq!(error.to_string(), "element of a signature has another tag at offset 0x0: tag 0x31, not 0x30");
     let error = Signature::parse(&bytes[..1]).unwrap_err();
     assert_eq!((error.error, error.left), (Error::SIGNATURE_TRUNCATED, 1));
+    assert!(error.to_string().ends_with(" at offset 0x0: 1 byte left"), "{error}");
+    let error = Signature::parse(&[]).unwrap_err();
+    assert!(error.to_string().ends_with(" at offset 0x0: 0 bytes left"), "{error}");
+    let error = Signature::parse(&[0x30, 1]).unwrap_err();
+    assert!(error.to_string().ends_with(": content of 1 byte, 0 left"), "{error}");
+    let error = Signature::parse(&[0x30, 2, 0]).unwrap_err();
+    assert!(error.to_string().ends_with(": content of 2 bytes, 1 left"), "{error}");
 }
 
 /// An element of DER.

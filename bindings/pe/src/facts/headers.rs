@@ -60,6 +60,20 @@ pub struct Directory {
     pub size: u32,
 }
 
+/// x64 and ARM64, whose images are PE32+; x86 and ARM Thumb-2, whose images are PE32.
+const OF_PE32_PLUS: [u32; 2] = [0x8664, 0xAA64];
+const OF_PE32: [u32; 2] = [0x14C, 0x1C4];
+
+impl Headers {
+    /// Says that the format is not that of images for the machine: Windows refuses PE32 for x64.
+    pub fn said_of_machine(&self) -> Option<String> {
+        let format = self.format?;
+        let (machines, own) = if format == "PE32" { (OF_PE32_PLUS, "PE32+") } else { (OF_PE32, "PE32") };
+        let is_other = machines.contains(&self.machine.number);
+        is_other.then(|| format!("{format}, but images for {} are {own}", self.machine))
+    }
+}
+
 pub fn of(image: &Image<'_>, file_name: &str, has_hashes: bool) -> Headers {
     let info = image.info();
     let is_reproducible = image.repro().ok().map(|it| it.is_some());

@@ -374,6 +374,12 @@ pub fn name_of(id: u16) -> Option<&'static str> {
     found(id, VARIANTS).or(found(id & LANGUAGE, LANGUAGES))
 }
 
+/// The name as it is shown: with the identifier where it is that of the language, which other identifiers have too.
+pub fn shown(id: u16) -> Option<String> {
+    let is_of_variant = id == 0 || found(id, VARIANTS).is_some();
+    name_of(id).map(|name| if is_of_variant { name.to_string() } else { format!("{name} ({id:#x})") })
+}
+
 #[cfg(test)]
 mod tests {
     use super::*;
@@ -386,6 +392,8 @@ mod tests {
         assert_eq!(name_of(0), Some("neutral"));
         assert_eq!(name_of(0xFC07), Some("German"));
         assert_eq!(name_of(0x3FF), None);
+        let texts = ["neutral", "German (0x7)", "German", "German (Swiss)", "German (0xfc07)"];
+        assert_eq!([0, 7, 0x407, 0x807, 0xFC07].map(|id| shown(id).unwrap()), texts);
         for names in [LANGUAGES, VARIANTS] {
             assert!(names.windows(2).all(|two| two[0].0 < two[1].0));
         }

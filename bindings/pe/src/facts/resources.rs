@@ -82,8 +82,9 @@ impl Serialize for Resources<'_> {
     }
 }
 
-/// `RT_VERSION`
+/// `RT_VERSION` and `RT_MANIFEST`
 pub const VERSION: ResourceName<'_> = ResourceName::Id(16);
+pub const MANIFEST: ResourceName<'_> = ResourceName::Id(24);
 
 impl Resources<'_> {
     /// How many types there are.

@@ -1,6 +1,6 @@
 //! Version information and the manifest, both of which are resources.
 
-use super::resources::{label_of, language_of, Label, VERSION};
+use super::resources::{label_of, language_of, Label, MANIFEST, VERSION};
 use super::{entry, field, Budget, List, Part, Refusal};
 use crate::escape::escaped;
 use pe_c::{Error, FixedVersion, Image, ResourceLeaf, ResourceName, VersionBlock, VersionBlocks};
@@ -51,6 +51,9 @@ pub struct Manifest {
     pub size: usize,
     /// The rights that the program asks for, such as `asInvoker`, or null.
     pub requested_level: Option<String>,
+    /// How many manifests the image has, of which this is the first.
+    #[serde(skip)]
+    pub count: usize,
 }
 
 field!(Fixed, "fixed");
@@ -196,10 +199,16 @@ fn attribute<'t>(text: &'t str, name: &str) -> Option<&'t str> {
 
 /// The level of `requestedExecutionLevel`. An element of an XML text ends at the first `>` outside of quotes; values of these
 /// attributes have none.
-fn manifest_of(bytes: &[u8]) -> Manifest {
+fn manifest_of(bytes: &[u8], count: usize) -> Manifest {
     let text = String::from_utf8_lossy(bytes);
     let element = text.split_once("requestedExecutionLevel").and_then(|(_, rest)| rest.split('>').next());
-    Manifest { size: bytes.len(), requested_level: element.and_then(|it| attribute(it, "level")).map(str::to_string) }
+    let requested_level = element.and_then(|it| attribute(it, "level")).map(str::to_string);
+    Manifest { size: bytes.len(), requested_level, count }
+}
+
+/// How many manifests there are, as far as resources are looked at.
+fn count_of_manifests(image: &Image<'_>) -> usize {
+    leaves_of(image).flatten().filter(|it| it.resource_type == MANIFEST).count()
 }
 
 /// The number by which Windows finds version information, `VS_VERSION_INFO`.
@@ -224,7 +233,7 @@ pub fn of(image: &Image<'_>) -> Version {
         language: first.map(|it| it.language.clone()),
         strings: first.map(|it| it.strings.clone()),
         languages,
-        manifest: image.manifest().map(|it| it.map(manifest_of)).into(),
+        manifest: image.manifest().map(|it| it.map(|it| manifest_of(it, count_of_manifests(image)))).into(),
     }
 }
 
@@ -234,7 +243,7 @@ mod tests {
 
     #[test]
     fn the_level_of_a_manifest_is_found() {
-        let level = |text: &str| manifest_of(text.as_bytes()).requested_level;
+        let level = |text: &str| manifest_of(text.as_bytes(), 1).requested_level;
         assert_eq!(
             level("<a:requestedExecutionLevel uiAccess='false' level = \"asInvoker\"/>"),
             Some("asInvoker".into())

@@ -44,12 +44,21 @@ impl fmt::Display for SignatureError {
         write!(f, "{error} at offset {offset:#x}")?;
         match *error {
             Error::SIGNATURE_TAG => write!(f, ": tag {value:#04x}, not {expected:#04x}"),
-            Error::SIGNATURE_LENGTH_OCTETS => write!(f, ": {value} octets"),
-            Error::SIGNATURE_PAST_PARENT => write!(f, ": content of {value} bytes, {left} left"),
-            Error::SIGNATURE_TRUNCATED => write!(f, ": {left} bytes left"),
-            Error::SIGNATURE_TRAILING => write!(f, ": {left} bytes"),
+            Error::SIGNATURE_LENGTH_OCTETS => write!(f, ": {value} octet{}", plural(*value)),
+            Error::SIGNATURE_PAST_PARENT => write!(f, ": content of {value} byte{}, {left} left", plural(*value)),
+            Error::SIGNATURE_TRUNCATED => write!(f, ": {left} byte{} left", plural(*left)),
+            Error::SIGNATURE_TRAILING => write!(f, ": {left} byte{}", plural(*left)),
             _ => Ok(()),
         }
+    }
+}
+
+/// The end of a noun after a number.
+fn plural(count: u64) -> &'static str {
+    if count == 1 {
+        ""
+    } else {
+        "s"
     }
 }
 
