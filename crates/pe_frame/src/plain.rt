@@ -150,7 +150,8 @@ fn may_be_plain(info: &UnwindInfo<'_>, offset: u32) -> bool
 /// at which it has called, so that no epilog has begun: what [`step_in_function_in_place`](crate::step_in_function_in_place) makes them
 /// without code. The XMM registers stay, and no interrupt left them.
 ///
-/// `None` where the function's record is not plain, and where the step is refused: then the integer registers mean nothing.
+/// `None` where the function's record is not plain, and where the step is refused: then the integer registers mean nothing. What is
+/// proved is that it returns no other step. No clause says where it is `None`: a caller steps the general way then.
 #[inline(always)]
 pub fn step_by_plain_record<R: RvaMap, M: Memory>(
     functions: &ImageFunctions<'_, R>,

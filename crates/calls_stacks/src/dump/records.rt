@@ -136,7 +136,8 @@ pub fn misc_at(bytes: &[u8], stream: &Range) -> Result<DumpProcess>
     Ok(misc_reported(&misc))
 }
 
-/// Whether an image is that of a module.
+/// Whether an image is that of a module, by the time stamp and the size of its image that a dump says of it, by which a symbol server
+/// files images too. The name says nothing: any file may have it.
 pub fn fits(image: &Image, module: &DumpModule) -> bool
     ensures { result ≡ fits image.now module.now }
 {
